@@ -72,12 +72,12 @@ kin_found b (c ∷ cs) frame found =
         let other : HasKin b cs frame = rest some in
         record { block = other.block; listed = inr other.listed; node = other.node; zone = other.zone; inside = other.inside }
 
-module _ (given : InputsView) (items : List Item) (bs : List Block) (whole : (b : Block) → ListsBlock bs b → IsWhole given items b)
-    (maximal : (b : Block) → ListsBlock bs b → IsMaximal given items b) where
+module _ (inputs : InputsView) (items : List Item) (bs : List Block) (whole : (b : Block) → ListsBlock bs b → IsWhole inputs items b)
+    (maximal : (b : Block) → ListsBlock bs b → IsMaximal inputs items b) where
   -- a frame of a block with the node and zone of `b` is free for `b`
-  kin_free : (b : Block) (frame : ℕ) → HasKin b bs frame → IsFreeFor given items b frame
+  kin_free : (b : Block) (frame : ℕ) → HasKin b bs frame → IsFreeFor inputs items b frame
   kin_free b frame kin =
-      let free : IsFreeFor given items kin.block frame = (whole kin.block kin.listed).frames frame kin.inside in
+      let free : IsFreeFor inputs items kin.block frame = (whole kin.block kin.listed).frames frame kin.inside in
       record {
         usable = free.usable;
         untouched = free.untouched;
@@ -103,13 +103,13 @@ module _ (given : InputsView) (items : List Item) (bs : List Block) (whole : (b 
       subst (λ (n : ℕ). (n - n % s ≤ frame) × (frame < n - n % s + s)) (sym first) (ends.0, ends.1)
 
   joined_free : (b : Block) → could_merge (map line_of_block bs) (line_of_block b) ≡ true
-      → (nat_lt b.order 10 ≡ true) × AreAllFree given items (block_with_buddy b)
+      → (nat_lt b.order 10 ≡ true) × AreAllFree inputs items (block_with_buddy b)
   unfolding could_merge
   joined_free b joins = (
     (and_parts (nat_lt b.order 10) _ joins).0,
     λ frame inside.
         (let ends = parent_frame b frame inside in
-        let free : IsFreeFor given items b frame = kin_free b frame (kin_found b bs frame
+        let free : IsFreeFor inputs items b frame = kin_free b frame (kin_found b bs frame
         (each_in-each (parent_of (line_of_block b)) (is_in_same_zone_block (line_of_block b) (map line_of_block bs))
         (and_parts (nat_lt b.order 10) _ joins).1
         frame ends.0 ends.1)) in

@@ -54,23 +54,23 @@ owners_told (r ∷ rs) runs near =
     let here = All-head IsBoundedOwnerRun r rs near in
     All-cons IsPrintableOwnerRun r rs ((runs.0, here.0), here.1) (owners_told rs runs.2 (All-tail IsBoundedOwnerRun r rs near))
 
-module _ (given : InputsView) (told : BootedView) (ends : whole_boot given ≡ Ok told) where
-  map_types : (x k : ℕ) → value_at told.map x ≡ Some k → (0 < k) × (k < 2 ^ 32)
+module _ (inputs : InputsView) (booted : BootedView) (ends : whole_boot inputs ≡ Ok booted) where
+  map_types : (x k : ℕ) → value_at booted.map x ≡ Some k → (0 < k) × (k < 2 ^ 32)
   map_types x k found =
-      let of : IsReportOfBoot no_extra given told = is_told_of no_extra given told (own_told told given ends) in
-      let is : told.map ≡ map_of (claims given) = ap (λ (t : BootedView). t.map) (sym of.tells)
-      ∙ (goes_on no_extra given of.made of.boots).map in
-      let given_so : value_at (map_of (claims given)) x ≡ Some k = ap (λ (rs : List (RunOf ℕ)). value_at rs x) (sym is) ∙ found in
+      let of : IsReportOfBoot no_extra inputs booted = is_told_of no_extra inputs booted (own_told booted inputs ends) in
+      let is : booted.map ≡ map_of (claims inputs) = ap (λ (t : BootedView). t.map) (sym of.tells)
+      ∙ (goes_on no_extra inputs of.made of.boots).map in
+      let given_so : value_at (map_of (claims inputs)) x ≡ Some k = ap (λ (rs : List (RunOf ℕ)). value_at rs x) (sym is) ∙ found in
       elim (cases_lt x (2 ^ 64)) as (λ _. (0 < k) × (k < 2 ^ 32)) [
         | inl low ↦
-            kind_small (claims given) x k (sym ((map_between (claims given)).within x (omega arith) (omega (arith, low))) ∙ given_so)
-        | inr far ↦ absurd (cc (sym given_so ∙ (map_between (claims given)).past x (omega (arith, far))))
+            kind_small (claims inputs) x k (sym ((map_between (claims inputs)).within x (omega arith) (omega (arith, low))) ∙ given_so)
+        | inr far ↦ absurd (cc (sym given_so ∙ (map_between (claims inputs)).past x (omega (arith, far))))
       ]
 
-  pub can_be_told : All RunEndsInSpace told.map → IsRunsOf (owner_of told.items) (owner_runs_of told.items)
-      → All IsBoundedOwnerRun (owner_runs_of told.items) → IsPrintableBoot told
+  pub can_be_told : All RunEndsInSpace booted.map → IsRunsOf (owner_of booted.items) (owner_runs_of booted.items)
+      → All IsBoundedOwnerRun (owner_runs_of booted.items) → IsPrintableBoot booted
   can_be_told near runs owners = record {
-    map = runs_told told.map (map_runs given told ends) map_types near;
-    owners = owners_told (owner_runs_of told.items) runs.runs owners;
-    within = λ x far. sym (runs.each x) ∙ nothing_past (owner_runs_of told.items) (λ k d here. (owners k d here).0) x far;
+    map = runs_told booted.map (map_runs inputs booted ends) map_types near;
+    owners = owners_told (owner_runs_of booted.items) runs.runs owners;
+    within = λ x far. sym (runs.each x) ∙ nothing_past (owner_runs_of booted.items) (λ k d here. (owners k d here).0) x far;
   }

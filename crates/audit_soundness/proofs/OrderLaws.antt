@@ -146,20 +146,22 @@ handed_low items frame n is =
     if_low _ (node_of_frame (memory_of items) frame) n (label_low (memory_of items (4096 * frame)) n) is
 
 -- each block can be printed as a line
-module _ (given : InputsView) (told : BootedView) (ends : whole_boot given ≡ Ok told) where
-  block_told : (b : Block) → ListsBlock (booted_blocks told) b → IsPrintableBlock b
+module _ (inputs : InputsView) (booted : BootedView) (ends : whole_boot inputs ≡ Ok booted) where
+  block_told : (b : Block) → ListsBlock (booted_blocks booted) b → IsPrintableBlock b
   block_told b listed =
-      let block : IsBlock told.free b = listed_sound told.free b listed in
-      let free : handover_frames told.items b.first ≡ Some b.node =
-      ap (λ (f : Frames). f b.first) (sym (is_told no_extra given told (own_told told given ends)).free) ∙ (block.good b.first refl).0 in
-      let low : b.node < 1024 = handed_low told.items b.first b.node free in
-      let end : b.first + 2 ^ b.order ≤ 2 ^ 40 = block_near told.free (below no_extra given told (own_told told given ends)) b block in
+      let block : IsBlock booted.free b = listed_sound booted.free b listed in
+      let free : handover_frames booted.items b.first ≡ Some b.node =
+      ap (λ (f : Frames). f b.first) (sym (is_told no_extra inputs booted (own_told booted inputs ends)).free)
+      ∙ (block.good b.first refl).0 in
+      let low : b.node < 1024 = handed_low booted.items b.first b.node free in
+      let end : b.first + 2 ^ b.order ≤ 2 ^ 40 = block_near booted.free
+      (below no_extra inputs booted (own_told booted inputs ends)) b block in
       (omega (arith, low), (block.small, omega (arith, end)))
 
-  all_told : (bs : List Block) → ((b : Block) → ListsBlock bs b → ListsBlock (booted_blocks told) b) → All IsPrintableBlock bs
+  all_told : (bs : List Block) → ((b : Block) → ListsBlock bs b → ListsBlock (booted_blocks booted) b) → All IsPrintableBlock bs
   all_told [] among = All-nil IsPrintableBlock
   all_told (b ∷ bs) among =
       All-cons IsPrintableBlock b bs (block_told b (among b (inl refl))) (all_told bs (λ d listed. among d (inr listed)))
 
-  pub blocks_told : All IsPrintableBlock (booted_blocks told)
-  blocks_told = all_told (booted_blocks told) (λ b listed. listed)
+  pub blocks_told : All IsPrintableBlock (booted_blocks booted)
+  blocks_told = all_told (booted_blocks booted) (λ b listed. listed)

@@ -39,56 +39,57 @@ read_saved form extent report held text lines is read =
     let short : nat_lt 536870912 (length text) ≡ false = (let few = is.short in grind (arith, nat_tests)) in
     rw (is.holds, short, read) refl
 
-pub map_runs : (given : InputsView) (told : BootedView) → whole_boot given ≡ Ok told → AreRuns told.map
-map_runs given told ends =
-    let of : IsReportOfBoot no_extra given told = is_told_of no_extra given told (own_told told given ends) in
+pub map_runs : (inputs : InputsView) (booted : BootedView) → whole_boot inputs ≡ Ok booted → AreRuns booted.map
+map_runs inputs booted ends =
+    let of : IsReportOfBoot no_extra inputs booted = is_told_of no_extra inputs booted (own_told booted inputs ends) in
     subst (λ (t : BootedView). AreRuns t.map) of.tells
-    (subst (λ (rs : List (RunOf ℕ)). AreRuns rs) (sym (goes_on no_extra given of.made of.boots).map) (map_between (claims given)).runs)
+    (subst (λ (rs : List (RunOf ℕ)). AreRuns rs) (sym (goes_on no_extra inputs of.made of.boots).map) (map_between (claims inputs)).runs)
 
-module _ (given : InputsView) (told : BootedView) (ends : whole_boot given ≡ Ok told) (can : IsPrintableBoot told) where
-  pub map_read : report_of map_line_in (λ l. l.range) (report_text reports.Map told) ≡ Ok (map line_of_run told.map)
+module _ (inputs : InputsView) (booted : BootedView) (ends : whole_boot inputs ≡ Ok booted) (can : IsPrintableBoot booted) where
+  pub map_read : report_of map_line_in (λ l. l.range) (report_text reports.Map booted) ≡ Ok (map line_of_run booted.map)
   map_read =
-      let order : AscendApart (map range_of_run told.map) = runs_ascend told.map (map_runs given told ends) in
-      map_back told.map (few_runs told.map order (λ k d inside. (can.map k d inside).0)) can.map order
+      let order : AscendApart (map range_of_run booted.map) = runs_ascend booted.map (map_runs inputs booted ends) in
+      map_back booted.map (few_runs booted.map order (λ k d inside. (can.map k d inside).0)) can.map order
 
-  pub owners_read : report_of owner_line_in (λ r. r) (report_text reports.Owners told) ≡ Ok (map range_of_run (owner_runs_of told.items))
+  pub owners_read : report_of owner_line_in (λ r. r) (report_text reports.Owners booted)
+      ≡ Ok (map range_of_run (owner_runs_of booted.items))
   owners_read =
-      let rs : List (RunOf Owner) = owner_runs_of told.items in
-      let order : AscendApart (map range_of_run rs) = runs_ascend rs (owner_runs told.items can.within).runs in
+      let rs : List (RunOf Owner) = owner_runs_of booted.items in
+      let order : AscendApart (map range_of_run rs) = runs_ascend rs (owner_runs booted.items can.within).runs in
       owners_back rs (few_runs rs order (λ k d inside. (can.owners k d inside).0)) can.owners order
 
-  pub blocks_read : report_of block_in bytes_of_block (report_text reports.Blocks told) ≡ Ok (map line_of_block (booted_blocks told))
+  pub blocks_read : report_of block_in bytes_of_block (report_text reports.Blocks booted) ≡ Ok (map line_of_block (booted_blocks booted))
   blocks_read =
-      blocks_back (booted_blocks told) (blocks_few told.free (below no_extra given told (own_told told given ends)))
-      (blocks_told given told ends)
-      (blocks_ascend told.free)
+      blocks_back (booted_blocks booted) (blocks_few booted.free (below no_extra inputs booted (own_told booted inputs ends)))
+      (blocks_told inputs booted ends)
+      (blocks_ascend booted.free)
 
-  module _ (held : FileContents) (wanted : AuditArgsView) (is : AreSaved held wanted told) where
+  module _ (held : FileContents) (args : AuditArgsView) (is : AreSaved held args booted) where
     abbrev told_lines : SavedView
     told_lines = record {
-      map_lines = map line_of_run told.map;
-      owners = map range_of_run (owner_runs_of told.items);
-      blocks = map line_of_block (booted_blocks told);
+      map_lines = map line_of_run booted.map;
+      owners = map range_of_run (owner_runs_of booted.items);
+      blocks = map line_of_block (booted_blocks booted);
     }
 
-    lines_told : saved_in_files held wanted ≡ Ok told_lines
+    lines_told : saved_in_files held args ≡ Ok told_lines
     lines_told =
         rw (
-          read_saved map_line_in (λ l. l.range) saved.Map (held wanted.map_name) (report_text reports.Map told)
-              (map line_of_run told.map) is.map map_read,
-          read_saved owner_line_in (λ r. r) saved.Owners (held wanted.owners_name) (report_text reports.Owners told)
-              (map range_of_run (owner_runs_of told.items)) is.owners owners_read,
-          read_saved block_in bytes_of_block saved.Blocks (held wanted.blocks_name) (report_text reports.Blocks told)
-              (map line_of_block (booted_blocks told)) is.blocks blocks_read,
+          read_saved map_line_in (λ l. l.range) saved.Map (held args.map_name) (report_text reports.Map booted)
+              (map line_of_run booted.map) is.map map_read,
+          read_saved owner_line_in (λ r. r) saved.Owners (held args.owners_name) (report_text reports.Owners booted)
+              (map range_of_run (owner_runs_of booted.items)) is.owners owners_read,
+          read_saved block_in bytes_of_block saved.Blocks (held args.blocks_name) (report_text reports.Blocks booted)
+              (map line_of_block (booted_blocks booted)) is.blocks blocks_read,
         ) refl
 
-    pub saved_conserved : FilesConserveMemory (Some wanted) held
+    pub saved_conserved : FilesConserveMemory (Some args) held
     saved_conserved = record {
-      wanted = wanted;
+      args = args;
       lines = told_lines;
-      words = refl;
+      args_read = refl;
       texts = lines_told;
       conserved = subst (λ (w : Width). LinesConserveMemory (address_limit_of w) told_lines.map_lines told_lines.owners told_lines.blocks)
           (sym is.width)
-          (lines_conserved given told ends can.within);
+          (lines_conserved inputs booted ends can.within);
     }

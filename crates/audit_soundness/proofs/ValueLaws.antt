@@ -22,38 +22,38 @@ pub owner_runs : (items : List Item) → IsEmptyFrom (2 ^ 64) (owner_of items) �
 unfolding owner_runs_of
 owner_runs items ends = runs_of_are_runs same_owner same_owner_decides_equality (owner_of items) ends
 
-module _ (given : InputsView) (told : BootedView) (ends : whole_boot given ≡ Ok told)
-    (near : IsEmptyFrom (2 ^ 64) (owner_of told.items)) where
-  runs : IsRunsOf (owner_of told.items) (owner_runs_of told.items)
-  runs = owner_runs told.items near
+module _ (inputs : InputsView) (booted : BootedView) (ends : whole_boot inputs ≡ Ok booted)
+    (near : IsEmptyFrom (2 ^ 64) (owner_of booted.items)) where
+  runs : IsRunsOf (owner_of booted.items) (owner_runs_of booted.items)
+  runs = owner_runs booted.items near
 
-  kept_told : (frame : ℕ) → IsTouchedOrInOneBlock told frame
-      → IsTouchedOrInOne (map range_of_run (owner_runs_of told.items)) (map line_of_block (booted_blocks told)) frame
+  kept_told : (frame : ℕ) → IsTouchedOrInOneBlock booted frame
+      → IsTouchedOrInOne (map range_of_run (owner_runs_of booted.items)) (map line_of_block (booted_blocks booted)) frame
   kept_told frame (inl touched) = inl (
-    touched_told told.items (owner_runs_of told.items) runs frame touched.0,
-    counted_told (booted_blocks told) frame ∙ touched.1,
+    touched_told booted.items (owner_runs_of booted.items) runs frame touched.0,
+    counted_told (booted_blocks booted) frame ∙ touched.1,
   )
   kept_told frame (inr bare) = inr (
-    untouched_told told.items (owner_runs_of told.items) runs frame bare.0,
-    counted_told (booted_blocks told) frame ∙ bare.1,
+    untouched_told booted.items (owner_runs_of booted.items) runs frame bare.0,
+    counted_told (booted_blocks booted) frame ∙ bare.1,
   )
 
-  pub lines_conserved : LinesConserveMemory (booted_address_limit told) (map line_of_run told.map)
-      (map range_of_run (owner_runs_of told.items))
-      (map line_of_block (booted_blocks told))
+  pub lines_conserved : LinesConserveMemory (booted_address_limit booted) (map line_of_run booted.map)
+      (map range_of_run (owner_runs_of booted.items))
+      (map line_of_block (booted_blocks booted))
   lines_conserved = record {
     frames = λ frame usable.
-        kept_told frame (all_touched_or_in_one no_extra given told (own_told told given ends) frame
-        ((usable_mapped no_extra given told frame (own_told told given ends)).1
-        (told_usable (booted_address_limit told) told.map frame usable)));
+        kept_told frame (all_touched_or_in_one no_extra inputs booted (own_told booted inputs ends) frame
+        ((usable_mapped no_extra inputs booted frame (own_told booted inputs ends)).1
+        (told_usable (booted_address_limit booted) booted.map frame usable)));
     others = λ frame some.
-        (let has : 0 < count_blocks_with (booted_blocks told) frame =
-        subst (λ (n : ℕ). 0 < n) (counted_told (booted_blocks told) frame) some in
-        let free = no_other_in_a_block no_extra given told (own_told told given ends) frame has in (
-          usable_told (booted_address_limit told) told.map frame
-              ((usable_mapped no_extra given told frame (own_told told given ends)).0 free.0),
-          untouched_told told.items (owner_runs_of told.items) runs frame free.1,
+        (let has : 0 < count_blocks_with (booted_blocks booted) frame =
+        subst (λ (n : ℕ). 0 < n) (counted_told (booted_blocks booted) frame) some in
+        let free = no_other_in_a_block no_extra inputs booted (own_told booted inputs ends) frame has in (
+          usable_told (booted_address_limit booted) booted.map frame
+              ((usable_mapped no_extra inputs booted frame (own_told booted inputs ends)).0 free.0),
+          untouched_told booted.items (owner_runs_of booted.items) runs frame free.1,
         ));
-    each = blocks_sound given told.items (booted_blocks told) (blocks_whole no_extra given told (own_told told given ends))
-        (blocks_maximal no_extra given told (own_told told given ends));
+    each = blocks_sound inputs booted.items (booted_blocks booted) (blocks_whole no_extra inputs booted (own_told booted inputs ends))
+        (blocks_maximal no_extra inputs booted (own_told booted inputs ends));
   }

@@ -12,10 +12,10 @@ use Rattle.memblock_model.specs.declared.owner.Owner.{Owner}
 -- Each run of the map, and each run of bytes with one owner, isn't empty and ends below 2^64. The
 -- types of the map's runs are above 0 and below 2^32. The numbers of owners are below 2^32. No
 -- address from 2^64 on has an owner. Blocks need no condition.
-pub record IsPrintableBoot (told : BootedView) : Type 0 where
-  pub map : All IsPrintableRun told.map
-  pub owners : All IsPrintableOwnerRun (owner_runs_of told.items)
-  pub within : IsEmptyFrom (2 ^ 64) (owner_of told.items)
+pub record IsPrintableBoot (booted : BootedView) : Type 0 where
+  pub map : All IsPrintableRun booted.map
+  pub owners : All IsPrintableOwnerRun (owner_runs_of booted.items)
+  pub within : IsEmptyFrom (2 ^ 64) (owner_of booted.items)
 
 -- the run ends below 2^64; the program's types ensure this
 abbrev pub RunEndsInSpace : {V : Type 0} → RunOf V → Type 0

@@ -13,8 +13,8 @@ pub record IsSaved (held : Option (List ℕ)) (text : List ℕ) : Type 0 where
 
 -- the three files that the command line of the audit names contain the reports of the boot, and
 -- the command line states the boot's width of physical addresses
-pub record AreSaved (held : FileContents) (wanted : AuditArgsView) (told : BootedView) : Type 0 where
-  pub width : wanted.width ≡ told.width
-  pub map : IsSaved (held wanted.map_name) (report_text reports.Map told)
-  pub owners : IsSaved (held wanted.owners_name) (report_text reports.Owners told)
-  pub blocks : IsSaved (held wanted.blocks_name) (report_text reports.Blocks told)
+pub record AreSaved (held : FileContents) (args : AuditArgsView) (booted : BootedView) : Type 0 where
+  pub width : args.width ≡ booted.width
+  pub map : IsSaved (held args.map_name) (report_text reports.Map booted)
+  pub owners : IsSaved (held args.owners_name) (report_text reports.Owners booted)
+  pub blocks : IsSaved (held args.blocks_name) (report_text reports.Blocks booted)

@@ -24,15 +24,15 @@ use memblock_model::{Owner, OwnerRun};
 /// `Sound`. The addresses and numbers of `booted` are in the ranges of its types
 /// (`IsPrintableBoot`).
 pub fn booted_reports_are_sound(booted: &Booted)
-    ghost given: { InputsView }
-    requires { whole_boot given ≡ Ok (booted_view booted.now) }
-    ensures told { IsPrintableBoot (booted_view booted.now) }
-    ensures conserved { (held : FileContents) (wanted : AuditArgsView)
-        → AreSaved held wanted (booted_view booted.now)
-        → FilesConserveMemory (Some wanted) held }
-    ensures sound { (held : FileContents) (wanted : AuditArgsView)
-        → AreSaved held wanted (booted_view booted.now)
-        → audit_outcome (Some wanted) held ≡ Ok verdicts.Sound }
+    ghost inputs: { InputsView }
+    requires { whole_boot inputs ≡ Ok (booted_view booted.now) }
+    ensures printable { IsPrintableBoot (booted_view booted.now) }
+    ensures conserved { (held : FileContents) (args : AuditArgsView)
+        → AreSaved held args (booted_view booted.now)
+        → FilesConserveMemory (Some args) held }
+    ensures sound { (held : FileContents) (args : AuditArgsView)
+        → AreSaved held args (booted_view booted.now)
+        → audit_outcome (Some args) held ≡ Ok verdicts.Sound }
 {
     map_runs_end_in_space(&booted.map);
     owner_runs_are_bounded(booted.journal.owners());

@@ -28,41 +28,41 @@ ghost use Rattle.memblock_model.specs.Items.{owner_of, owner_runs_of};
 /// block is usable and untouched. The address of each block is a multiple of its size, its frames
 /// are in its zone, and it couldn't merge with its buddy.
 pub fn booted_lines_conserve_memory()
-    ensures { (given : InputsView) (told : BootedView) → whole_boot given ≡ Ok told
-        → IsEmptyFrom (2 ^ 64) (owner_of told.items)
-        → LinesConserveMemory (booted_address_limit told) (map line_of_run told.map)
-        (map range_of_run (owner_runs_of told.items))
-        (map line_of_block (booted_blocks told)) }
+    ensures { (inputs : InputsView) (booted : BootedView) → whole_boot inputs ≡ Ok booted
+        → IsEmptyFrom (2 ^ 64) (owner_of booted.items)
+        → LinesConserveMemory (booted_address_limit booted) (map line_of_run booted.map)
+        (map range_of_run (owner_runs_of booted.items))
+        (map line_of_block (booted_blocks booted)) }
 {}
 
 /// Law: the audit reads the printed reports `map`, `owners` and `blocks` of a successful boot back
 /// as the lines that they were printed from. The boot's addresses must be below 2^64, and its
 /// numbers below 2^32 (`IsPrintableBoot`).
 pub fn booted_reports_are_read_back()
-    ensures map { (given : InputsView) (told : BootedView) → whole_boot given ≡ Ok told
-        → IsPrintableBoot told
-        → report_of map_line_in (λ l. l.range) (report_text reports.Map told)
-        ≡ Ok (map line_of_run told.map) }
-    ensures owners { (given : InputsView) (told : BootedView) → whole_boot given ≡ Ok told
-        → IsPrintableBoot told
-        → report_of owner_line_in (λ r. r) (report_text reports.Owners told)
-        ≡ Ok (map range_of_run (owner_runs_of told.items)) }
-    ensures blocks { (given : InputsView) (told : BootedView) → whole_boot given ≡ Ok told
-        → IsPrintableBoot told
-        → report_of block_in bytes_of_block (report_text reports.Blocks told)
-        ≡ Ok (map line_of_block (booted_blocks told)) }
+    ensures map { (inputs : InputsView) (booted : BootedView) → whole_boot inputs ≡ Ok booted
+        → IsPrintableBoot booted
+        → report_of map_line_in (λ l. l.range) (report_text reports.Map booted)
+        ≡ Ok (map line_of_run booted.map) }
+    ensures owners { (inputs : InputsView) (booted : BootedView) → whole_boot inputs ≡ Ok booted
+        → IsPrintableBoot booted
+        → report_of owner_line_in (λ r. r) (report_text reports.Owners booted)
+        ≡ Ok (map range_of_run (owner_runs_of booted.items)) }
+    ensures blocks { (inputs : InputsView) (booted : BootedView) → whole_boot inputs ≡ Ok booted
+        → IsPrintableBoot booted
+        → report_of block_in bytes_of_block (report_text reports.Blocks booted)
+        ≡ Ok (map line_of_block (booted_blocks booted)) }
 {}
 
 /// Law: if the files of an audit contain the three reports of a successful boot, their lines show
 /// that memory was conserved, and the outcome of the audit is `Sound`. The boot's addresses must
 /// be below 2^64, and its numbers below 2^32 (`IsPrintableBoot`).
 pub fn saved_reports_are_sound()
-    ensures conserved { (given : InputsView) (told : BootedView) → whole_boot given ≡ Ok told
-        → IsPrintableBoot told
-        → (held : FileContents) (wanted : AuditArgsView) → AreSaved held wanted told
-        → FilesConserveMemory (Some wanted) held }
-    ensures sound { (given : InputsView) (told : BootedView) → whole_boot given ≡ Ok told
-        → IsPrintableBoot told
-        → (held : FileContents) (wanted : AuditArgsView) → AreSaved held wanted told
-        → audit_outcome (Some wanted) held ≡ Ok verdicts.Sound }
+    ensures conserved { (inputs : InputsView) (booted : BootedView) → whole_boot inputs ≡ Ok booted
+        → IsPrintableBoot booted
+        → (held : FileContents) (args : AuditArgsView) → AreSaved held args booted
+        → FilesConserveMemory (Some args) held }
+    ensures sound { (inputs : InputsView) (booted : BootedView) → whole_boot inputs ≡ Ok booted
+        → IsPrintableBoot booted
+        → (held : FileContents) (args : AuditArgsView) → AreSaved held args booted
+        → audit_outcome (Some args) held ≡ Ok verdicts.Sound }
 {}

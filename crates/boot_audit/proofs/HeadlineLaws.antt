@@ -124,15 +124,15 @@ good_blocks held blocks is =
       lines_fit block_in bytes_of_block IsBlockLine block_fits 0 0 split.0 split.1 blocks read.1,
     )
 
-good_lines : (held : FileContents) (wanted : AuditArgsView) (lines : SavedView) → saved_in_files held wanted ≡ Ok lines
+good_lines : (held : FileContents) (args : AuditArgsView) (lines : SavedView) → saved_in_files held args ≡ Ok lines
     → AreGood lines.blocks
-good_lines held wanted lines is =
-    by_map (lines_in_file map_line_in (λ l. l.range) reports.Map (held wanted.map_name))
-    (lines_in_file owner_line_in (λ r. r) reports.Owners (held wanted.owners_name))
-    (lines_in_file block_in bytes_of_block reports.Blocks (held wanted.blocks_name)) refl is
+good_lines held args lines is =
+    by_map (lines_in_file map_line_in (λ l. l.range) reports.Map (held args.map_name))
+    (lines_in_file owner_line_in (λ r. r) reports.Owners (held args.owners_name))
+    (lines_in_file block_in bytes_of_block reports.Blocks (held args.blocks_name)) refl is
   where
     by_map : (m : Result (List MapLine) AuditReason) (o : Result (List RangeView) AuditReason) (b : Result (List BlockLineView) AuditReason)
-        → lines_in_file block_in bytes_of_block reports.Blocks (held wanted.blocks_name) ≡ b
+        → lines_in_file block_in bytes_of_block reports.Blocks (held args.blocks_name) ≡ b
         → (m >>= λ map_lines. o >>= λ owners. b >>= λ blocks.
         Ok (record { map_lines = map_lines; owners = owners; blocks = blocks })) ≡ Ok lines
         → AreGood lines.blocks
@@ -141,34 +141,34 @@ good_lines held wanted lines is =
     by_map (Ok m) (Ok o) (Err reason) reads is = cc
     by_map (Ok m) (Ok o) (Ok b) reads is =
         let blocks : b ≡ lines.blocks = cc in
-        rw (← blocks) (good_blocks (held wanted.blocks_name) b reads)
+        rw (← blocks) (good_blocks (held args.blocks_name) b reads)
 
 pub sound_conserved : (accepted : Option AuditArgsView) (held : FileContents) → audit_outcome accepted held ≡ Ok verdicts.Sound
     → FilesConserveMemory accepted held
 sound_conserved None held is = cc
-sound_conserved (Some wanted) held is = by_lines (saved_in_files held wanted) refl is
+sound_conserved (Some args) held is = by_lines (saved_in_files held args) refl is
   where
-    by_lines : (said : Result SavedView AuditReason) → saved_in_files held wanted ≡ said
-        → (said >>= λ lines. Ok (verdict_for_args wanted lines)) ≡ Ok verdicts.Sound → FilesConserveMemory (Some wanted) held
+    by_lines : (said : Result SavedView AuditReason) → saved_in_files held args ≡ said
+        → (said >>= λ lines. Ok (verdict_for_args args lines)) ≡ Ok verdicts.Sound → FilesConserveMemory (Some args) held
     by_lines (Err reason) reads is = cc
     by_lines (Ok lines) reads is =
-        let good = good_lines held wanted lines reads in
-        let sound : verdict_for_args wanted lines ≡ verdicts.Sound = cc in
+        let good = good_lines held args lines reads in
+        let sound : verdict_for_args args lines ≡ verdicts.Sound = cc in
         record {
-          wanted = wanted;
+          args = args;
           lines = lines;
-          words = refl;
+          args_read = refl;
           texts = reads;
-          conserved = sound_says (address_limit_of wanted.width) lines.map_lines lines.owners lines.blocks (reach_near wanted.width)
+          conserved = sound_says (address_limit_of args.width) lines.map_lines lines.owners lines.blocks (reach_near args.width)
               (frames_ascend lines.blocks good.0) good.1 sound;
         }
 
 pub conserved_sound : (accepted : Option AuditArgsView) (held : FileContents) → FilesConserveMemory accepted held
     → audit_outcome accepted held ≡ Ok verdicts.Sound
 conserved_sound accepted held kept =
-    let good = good_lines held kept.wanted kept.lines kept.texts in
-    let sound : verdict_for_args kept.wanted kept.lines ≡ verdicts.Sound =
-    conserved_says (address_limit_of kept.wanted.width) kept.lines.map_lines kept.lines.owners kept.lines.blocks
-    (reach_near kept.wanted.width)
+    let good = good_lines held kept.args kept.lines kept.texts in
+    let sound : verdict_for_args kept.args kept.lines ≡ verdicts.Sound =
+    conserved_says (address_limit_of kept.args.width) kept.lines.map_lines kept.lines.owners kept.lines.blocks
+    (reach_near kept.args.width)
     (frames_ascend kept.lines.blocks good.0) good.1 kept.conserved in
-    rw (kept.words, kept.texts, sound) refl
+    rw (kept.args_read, kept.texts, sound) refl

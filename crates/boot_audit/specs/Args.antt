@@ -15,9 +15,9 @@ pub record AuditArgsView : Type 0 where
 
 -- the name of the file with this report
 abbrev pub report_file_name : AuditArgsView → SavedReport → List ℕ
-report_file_name wanted reports.Map = wanted.map_name
-report_file_name wanted reports.Owners = wanted.owners_name
-report_file_name wanted reports.Blocks = wanted.blocks_name
+report_file_name args reports.Map = args.map_name
+report_file_name args reports.Owners = args.owners_name
+report_file_name args reports.Blocks = args.blocks_name
 
 -- whether the word can be a file name: it doesn't begin with `-`; the empty word can
 abbrev pub is_file_word : List ℕ → Bool

@@ -21,7 +21,7 @@ report_position reports.Blocks = 2
 abbrev pub bootaudit : Program AuditArgsView SavedReport Verdict
 bootaudit = record {
   place = report_position;
-  named = λ wanted report. Some (report_file_name wanted report);
+  named = λ args report. Some (report_file_name args report);
   text = verdict_text;
   status = verdict_status;
   statuses = verdict_statuses;

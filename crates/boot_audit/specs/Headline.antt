@@ -9,8 +9,8 @@ use Rattle.boot_audit.specs.Args.{AuditArgsView}
 -- the command line is accepted, the three files that it names are well-formed reports, and their
 -- lines show that memory was conserved
 pub record FilesConserveMemory (accepted : Option AuditArgsView) (held : FileContents) : Type 0 where
-  pub wanted : AuditArgsView
+  pub args : AuditArgsView
   pub lines : SavedView
-  pub words : accepted ≡ Some wanted
-  pub texts : saved_in_files held wanted ≡ Ok lines
-  pub conserved : LinesConserveMemory (address_limit_of wanted.width) lines.map_lines lines.owners lines.blocks
+  pub args_read : accepted ≡ Some args
+  pub texts : saved_in_files held args ≡ Ok lines
+  pub conserved : LinesConserveMemory (address_limit_of args.width) lines.map_lines lines.owners lines.blocks

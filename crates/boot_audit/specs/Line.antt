@@ -69,7 +69,7 @@ impossible_cause_text cause = []
 -- refused
 abbrev pub report_file_text : Option AuditArgsView → SavedReport → List ℕ
 report_file_text None report = []
-report_file_text (Some wanted) report = report_file_name wanted report
+report_file_text (Some args) report = report_file_name args report
 
 abbrev pub bootaudit_name : List ℕ
 bootaudit_name = codes "bootaudit"

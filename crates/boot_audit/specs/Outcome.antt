@@ -37,20 +37,20 @@ pub record SavedView : Type 0 where
 -- the lines of the three files, or the reason why the first file that has a fault gives none; the
 -- files are read in the order `map`, `owners`, `blocks`
 abbrev pub saved_in_files : FileContents → AuditArgsView → Result SavedView AuditReason
-saved_in_files held wanted = do
-  map_lines ← lines_in_file map_line_in (λ l. l.range) reports.Map (held wanted.map_name)
-  owners ← lines_in_file owner_line_in (λ r. r) reports.Owners (held wanted.owners_name)
-  blocks ← lines_in_file block_in bytes_of_block reports.Blocks (held wanted.blocks_name)
+saved_in_files held args = do
+  map_lines ← lines_in_file map_line_in (λ l. l.range) reports.Map (held args.map_name)
+  owners ← lines_in_file owner_line_in (λ r. r) reports.Owners (held args.owners_name)
+  blocks ← lines_in_file block_in bytes_of_block reports.Blocks (held args.blocks_name)
   Ok (record { map_lines = map_lines; owners = owners; blocks = blocks })
 
 -- the verdict on these lines, for the width that the command line gives
 abbrev pub verdict_for_args : AuditArgsView → SavedView → Verdict
-verdict_for_args wanted lines = verdict_on_lines (address_limit_of wanted.width) lines.map_lines lines.owners lines.blocks
+verdict_for_args args lines = verdict_on_lines (address_limit_of args.width) lines.map_lines lines.owners lines.blocks
 
 -- the outcome of the audit: the verdict on the three files, or the reason why there is none.
 -- `accepted` is the command line, or `None` if it was refused.
 abbrev pub audit_outcome : Option AuditArgsView → FileContents → Result Verdict AuditReason
 audit_outcome accepted held = do
-  wanted ← accepted_or_usage accepted
-  lines ← saved_in_files held wanted
-  Ok (verdict_for_args wanted lines)
+  args ← accepted_or_usage accepted
+  lines ← saved_in_files held args
+  Ok (verdict_for_args args lines)

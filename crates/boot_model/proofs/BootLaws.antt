@@ -31,10 +31,10 @@ use Rattle.boot_model.proofs.StageLaws.{AllKeep, Keeps, chain_keeps, goes_by, pa
 use Rattle.boot_model.specs.Stages.{run_each_stage}
 
 -- what is known of the map if the boot accepts it
-pub record AcceptsMap (given : InputsView) (made : BootSoFar) : Type 0 where
-  pub map : made.map ≡ map_of (claims given)
-  pub fits : nat_lt E820_MAX_ENTRIES (length (map_of (claims given))) ≡ false
-  pub judged : judge_frames (types_in_reach given) ≡ None
+pub record AcceptsMap (inputs : InputsView) (made : BootSoFar) : Type 0 where
+  pub map : made.map ≡ map_of (claims inputs)
+  pub fits : nat_lt E820_MAX_ENTRIES (length (map_of (claims inputs))) ≡ false
+  pub judged : judge_frames (types_in_reach inputs) ≡ None
 
 -- the stage that checks the size of the map changes nothing unless it stops the boot
 pub room_passed : (full : Bool) (cause : Cause) (before after : BootSoFar) → (if full then Err cause else Ok before) ≡ Ok after
@@ -49,13 +49,13 @@ frames_passed None before after ends = (refl, cc)
 frames_passed (Some reason) before after ends = absurd (cc)
 
 -- the stages that accept the map change nothing: what was made is still what the boot began with
-pub accepted_map_is_unchanged : (given : InputsView) (made : BootSoFar) → judge_map given ≡ Ok made
-    → (made ≡ begin_boot given) × (judge_frames (types_in_reach given) ≡ None)
-    × (nat_lt E820_MAX_ENTRIES (length (map_of (claims given))) ≡ false)
-accepted_map_is_unchanged given made ends =
-    let behind_room = passes map_size_stage (drop 1 (map_stages given)) (begin_boot given) made ends in
-    let behind_frames = passes (usable_frames_stage given) (drop 2 (map_stages given)) behind_room.middle made behind_room.rest in
-    let room = room_passed _ _ (begin_boot given) behind_room.middle behind_room.first in
+pub accepted_map_is_unchanged : (inputs : InputsView) (made : BootSoFar) → judge_map inputs ≡ Ok made
+    → (made ≡ begin_boot inputs) × (judge_frames (types_in_reach inputs) ≡ None)
+    × (nat_lt E820_MAX_ENTRIES (length (map_of (claims inputs))) ≡ false)
+accepted_map_is_unchanged inputs made ends =
+    let behind_room = passes map_size_stage (drop 1 (map_stages inputs)) (begin_boot inputs) made ends in
+    let behind_frames = passes (usable_frames_stage inputs) (drop 2 (map_stages inputs)) behind_room.middle made behind_room.rest in
+    let room = room_passed _ _ (begin_boot inputs) behind_room.middle behind_room.first in
     let frames = frames_passed _ behind_room.middle behind_frames.middle behind_frames.first in
     let last : behind_frames.middle ≡ made = cc in
     (sym (room.1 ∙ frames.1 ∙ last), frames.0, room.0)
@@ -77,29 +77,30 @@ claims_map : (kernel : RangeView) (lines : List Line) → Keeps (λ (made : Boot
 claims_map kernel lines before after ends = ap (λ (m : BootSoFar). m.map) (claims_passed kernel lines before after ends)
 
 -- each stage after the map was accepted leaves the map as it is
-pub later_keep : (extra : ExtraView) (given : InputsView) → AllKeep (λ (made : BootSoFar). made.map) (later_stages extra given)
-later_keep extra given =
+pub later_keep : (extra : ExtraView) (inputs : InputsView) → AllKeep (λ (made : BootSoFar). made.map) (later_stages extra inputs)
+later_keep extra inputs =
     let map : BootSoFar → List (RunOf ℕ) = λ made. made.map in
-    let memory : Keeps map (memory_stage given) = λ before after ends. steps_keep map cause_of_growth (λ done next. next)
-    (items_with_growths (early_items (early_inputs given) before.map)) (λ a m. refl) (λ last. refl) before after ends in
-    let nodes = steps_keep map cause_of_stage made_with_nodes (assign_nodes given.domains given.options.numa_off) (λ a m. refl) (λ before.
+    let memory : Keeps map (memory_stage inputs) = λ before after ends. steps_keep map cause_of_growth (λ done next. next)
+    (items_with_growths (early_items (early_inputs inputs) before.map)) (λ a m. refl) (λ last. refl) before after ends in
+    let nodes = steps_keep map cause_of_stage made_with_nodes (assign_nodes inputs.domains inputs.options.numa_off) (λ a m. refl) (λ before.
     refl) in
-    let crash : Keeps map (crash_area_stage extra.profile given) = λ before after ends. steps_keep map cause_of_growth made_with_crash_area
-    (reserve_for_map extra.profile given before.map) (λ a m. refl) (λ last. refl) before after ends in
-    let early = claims_map given.kernel extra.claims in
-    let sections = steps_keep map cause_of_stage made_with_sections (place_present_sections given.width) (λ a m. refl) (λ before. refl) in
-    let before = lines_map given.kernel (lines_before_sections given.lines) in
-    let behind = lines_map given.kernel (lines_after_sections given.lines) in
+    let crash : Keeps map (crash_area_stage extra.profile inputs) = λ before after ends. steps_keep map cause_of_growth made_with_crash_area
+    (reserve_for_map extra.profile inputs before.map) (λ a m. refl) (λ last. refl) before after ends in
+    let early = claims_map inputs.kernel extra.claims in
+    let sections = steps_keep map cause_of_stage made_with_sections (place_present_sections inputs.width) (λ a m. refl) (λ before. refl) in
+    let before = lines_map inputs.kernel (lines_before_sections inputs.lines) in
+    let behind = lines_map inputs.kernel (lines_after_sections inputs.lines) in
     (memory, (early, (nodes, (crash, (before, (sections, (behind, tt)))))))
 
-pub goes_on : (extra : ExtraView) (given : InputsView) (made : BootSoFar) → boot_with extra given ≡ Ok made → AcceptsMap given made
+pub goes_on : (extra : ExtraView) (inputs : InputsView) (made : BootSoFar) → boot_with extra inputs ≡ Ok made → AcceptsMap inputs made
 unfolding boot_with
-goes_on extra given made ends =
-    let judged_map = goes_by (judge_map given) (λ m. run_each_stage (later_stages extra given) m) made ends in
-    let known = accepted_map_is_unchanged given judged_map.middle judged_map.first in
+goes_on extra inputs made ends =
+    let judged_map = goes_by (judge_map inputs) (λ m. run_each_stage (later_stages extra inputs) m) made ends in
+    let known = accepted_map_is_unchanged inputs judged_map.middle judged_map.first in
     record {
       map =
-          chain_keeps (λ (m : BootSoFar). m.map) (later_stages extra given) (later_keep extra given) judged_map.middle made judged_map.rest
+          chain_keeps (λ (m : BootSoFar). m.map) (later_stages extra inputs)
+          (later_keep extra inputs) judged_map.middle made judged_map.rest
           ∙ ap (λ (m : BootSoFar). m.map) known.0;
       fits = known.2;
       judged = known.1;
@@ -124,26 +125,26 @@ memory_lies (r ∷ rs) x runs =
     ]
 
 -- the runs of the map determine which frames are usable
-pub usable_lies : (extra : ExtraView) (given : InputsView) (made : BootSoFar) (frame : ℕ) → boot_with extra given ≡ Ok made
-    → 4096 * frame + 4096 ≤ reach given
-    → is_usable_frame (types_in_reach given) frame ≡ each_in (bytes_of_frame frame) (lies_in_memory made.map)
+pub usable_lies : (extra : ExtraView) (inputs : InputsView) (made : BootSoFar) (frame : ℕ) → boot_with extra inputs ≡ Ok made
+    → 4096 * frame + 4096 ≤ reach inputs
+    → is_usable_frame (types_in_reach inputs) frame ≡ each_in (bytes_of_frame frame) (lies_in_memory made.map)
 unfolding is_usable_frame
-usable_lies extra given made frame ends low =
-    let c : Claims = claims given in
+usable_lies extra inputs made frame ends low =
+    let c : Claims = claims inputs in
     let between = map_between c in
     each_in-same (bytes_of_frame frame) _ _ (λ x from below. (
-    let low_x : nat_lt x (reach given) ≡ true = grind (arith, nat_tests) in
-    let far : reach given ≤ 2 ^ 52 = reach-small given in
+    let low_x : nat_lt x (reach inputs) ≡ true = grind (arith, nat_tests) in
+    let far : reach inputs ≤ 2 ^ 52 = reach-small inputs in
     let value : value_at (map_of c) x ≡ kinds c x = between.within x (omega arith) (omega (arith, far)) in
-    let told : is_memory (kinds c x) ≡ lies_in_memory (map_of c) x = ap is_memory (sym value) ∙ memory_lies (map_of c) x between.runs in
-    rw (low_x, (goes_on extra given made ends).map) told))
+    let lies : is_memory (kinds c x) ≡ lies_in_memory (map_of c) x = ap is_memory (sym value) ∙ memory_lies (map_of c) x between.runs in
+    rw (low_x, (goes_on extra inputs made ends).map) lies))
 
 -- each address below 2^64 has in the map the type that the claims give it
-pub map_has_claimed_types : (extra : ExtraView) (given : InputsView) (made : BootSoFar) (x : ℕ) → boot_with extra given ≡ Ok made
+pub map_has_claimed_types : (extra : ExtraView) (inputs : InputsView) (made : BootSoFar) (x : ℕ) → boot_with extra inputs ≡ Ok made
     → x < 2 ^ 64
-    → value_at made.map x ≡ kinds (claims given) x
-map_has_claimed_types extra given made x ends low =
-    rw (goes_on extra given made ends).map ((map_between (claims given)).within x (omega arith) (omega arith))
+    → value_at made.map x ≡ kinds (claims inputs) x
+map_has_claimed_types extra inputs made x ends low =
+    rw (goes_on extra inputs made ends).map ((map_between (claims inputs)).within x (omega arith) (omega arith))
 
 -- a number of frames for which the boot doesn't stop is 1 to 2^32
 pub frames_within : (n : ℕ) → (if n == 0 then Some reasons.NoRam else (if nat_lt (2 ^ 32) n then Some (reasons.TooMuchRam n) else
@@ -152,12 +153,12 @@ pub frames_within : (n : ℕ) → (if n == 0 then Some reasons.NoRam else (if na
 frames_within n fine = grind (arith, nat_tests)
 
 -- a map that the boot accepts has 1 to 2^32 usable frames
-pub accepted_map_has_usable_frames : (extra : ExtraView) (given : InputsView) (made : BootSoFar) → boot_with extra given ≡ Ok made
-    → (0 < usable_frames (types_in_reach given)) × (usable_frames (types_in_reach given) ≤ 2 ^ 32)
-accepted_map_has_usable_frames extra given made ends =
-    frames_within (usable_frames (types_in_reach given)) (goes_on extra given made ends).judged
+pub accepted_map_has_usable_frames : (extra : ExtraView) (inputs : InputsView) (made : BootSoFar) → boot_with extra inputs ≡ Ok made
+    → (0 < usable_frames (types_in_reach inputs)) × (usable_frames (types_in_reach inputs) ≤ 2 ^ 32)
+accepted_map_has_usable_frames extra inputs made ends =
+    frames_within (usable_frames (types_in_reach inputs)) (goes_on extra inputs made ends).judged
 
 -- a map that the boot accepts fits in the kernel's table
-pub accepted_map_fits : (extra : ExtraView) (given : InputsView) (made : BootSoFar) → boot_with extra given ≡ Ok made
+pub accepted_map_fits : (extra : ExtraView) (inputs : InputsView) (made : BootSoFar) → boot_with extra inputs ≡ Ok made
     → length made.map ≤ E820_MAX_ENTRIES
-accepted_map_fits extra given made ends = let known = goes_on extra given made ends in rw known.map (grind (arith, nat_tests, known.fits))
+accepted_map_fits extra inputs made ends = let known = goes_on extra inputs made ends in rw known.map (grind (arith, nat_tests, known.fits))

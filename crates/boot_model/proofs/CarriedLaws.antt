@@ -37,12 +37,12 @@ carried_said (i ∷ is) items =
     step_said o.steps o.refused is items (carried_said is (append_groups items o.steps))
 
 -- if the stage that makes memory doesn't stop, it ends after all of its items
-pub memory_carried : (given : InputsView) (made next : BootSoFar) → memory_stage given made ≡ Ok next
-    → carry_out_items (early_items (early_inputs given) made.map) made.items ≡ Ok next.items
-memory_carried given made next ends =
+pub memory_carried : (inputs : InputsView) (made next : BootSoFar) → memory_stage inputs made ≡ Ok next
+    → carry_out_items (early_items (early_inputs inputs) made.map) made.items ≡ Ok next.items
+memory_carried inputs made next ends =
     let told = steps_answered cause_of_growth (λ done last.
-    last) (items_with_growths (early_items (early_inputs given) made.map)) made next ends in
-    carried_said (early_items (early_inputs given) made.map) made.items
+    last) (items_with_growths (early_items (early_inputs inputs) made.map)) made next ends in
+    carried_said (early_items (early_inputs inputs) made.map) made.items
     ∙ rw told.answer (ap (λ (m : BootSoFar). Ok m.items) (sym told.same))
 
 items_are : (items last : List Item) (d : StepEffect RefusedGrowth (Unit {0})) (answer : Result (Unit {0}) RefusedGrowth)
@@ -51,10 +51,10 @@ items_are : (items last : List Item) (d : StepEffect RefusedGrowth (Unit {0})) (
 items_are items last d (Ok done) is ends = let told = rw is at ends in (is, cc told)
 items_are items last d (Err refused) is ends = let told = rw is at ends in absurd (cc told)
 
-pub memory_made_by : (given : InputsView) (made : BootSoFar) (items : List Item)
-    → carry_out_items (early_items (early_inputs given) made.map) made.items ≡ Ok items
-    → memory_stage given made ≡ Ok (record made { items = items })
-memory_made_by given made items ends =
-    let wanted : List Item = early_items (early_inputs given) made.map in
+pub memory_made_by : (inputs : InputsView) (made : BootSoFar) (items : List Item)
+    → carry_out_items (early_items (early_inputs inputs) made.map) made.items ≡ Ok items
+    → memory_stage inputs made ≡ Ok (record made { items = items })
+memory_made_by inputs made items ends =
+    let wanted : List Item = early_items (early_inputs inputs) made.map in
     let told = items_are made.items items (items_with_growths wanted made.items) _ refl (sym (carried_said wanted made.items) ∙ ends) in
     rw (told.0, told.1) refl

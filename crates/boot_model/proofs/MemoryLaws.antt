@@ -89,98 +89,98 @@ claims_bound kernel lines before last ends =
     ap bound_by (claims_passed kernel lines before last ends) ∙ lines_keep limit_of quiet-limit (claims_state kernel before) lines
 
 -- the stage of nodes doesn't change which bytes are memory
-nodes_hold : (given : InputsView) → Keeps held_by (nodes_stage given)
-nodes_hold given =
-    steps_keep held_by cause_of_stage made_with_nodes (assign_nodes given.domains given.options.numa_off) (λ a m. refl)
-    (λ before. (λ i x. keeps-memory given.domains given.options.numa_off before.items x i))
+nodes_hold : (inputs : InputsView) → Keeps held_by (nodes_stage inputs)
+nodes_hold inputs =
+    steps_keep held_by cause_of_stage made_with_nodes (assign_nodes inputs.domains inputs.options.numa_off) (λ a m. refl)
+    (λ before. (λ i x. keeps-memory inputs.domains inputs.options.numa_off before.items x i))
 
 -- the stage of nodes leaves the limit as it is
-nodes_bound : (given : InputsView) → Keeps bound_by (nodes_stage given)
-nodes_bound given =
-    steps_keep bound_by cause_of_stage made_with_nodes (assign_nodes given.domains given.options.numa_off) (λ a m. refl)
-    (λ before. keeps-limit given.domains given.options.numa_off before.items)
+nodes_bound : (inputs : InputsView) → Keeps bound_by (nodes_stage inputs)
+nodes_bound inputs =
+    steps_keep bound_by cause_of_stage made_with_nodes (assign_nodes inputs.domains inputs.options.numa_off) (λ a m. refl)
+    (λ before. keeps-limit inputs.domains inputs.options.numa_off before.items)
 
 -- the stage of the crash area leaves the labels as they are
-pub crash_labels : (profile : Profile) (given : InputsView) → Keeps labels_by (crash_area_stage profile given)
-crash_labels profile given before last =
-    steps_keep labels_by cause_of_growth made_with_crash_area (reserve_for_map profile given before.map) (λ a m. refl)
-    (λ made. quiet-appended_memory made.items (reserve_for_map profile given before.map made.items).steps
-    ((quiet-reserved_by profile.crash (added_bytes (reach given) before.map) given.options.crash).each made.items)) before last
+pub crash_labels : (profile : Profile) (inputs : InputsView) → Keeps labels_by (crash_area_stage profile inputs)
+crash_labels profile inputs before last =
+    steps_keep labels_by cause_of_growth made_with_crash_area (reserve_for_map profile inputs before.map) (λ a m. refl)
+    (λ made. quiet-appended_memory made.items (reserve_for_map profile inputs before.map made.items).steps
+    ((quiet-reserved_by profile.crash (added_bytes (reach inputs) before.map) inputs.options.crash).each made.items)) before last
 
 -- the stage of the crash area leaves the limit as it is
-crash_bound : (profile : Profile) (given : InputsView) → Keeps bound_by (crash_area_stage profile given)
-crash_bound profile given before last =
-    steps_keep bound_by cause_of_growth made_with_crash_area (reserve_for_map profile given before.map) (λ a m. refl)
-    (λ made. quiet-appended_limit made.items (reserve_for_map profile given before.map made.items).steps
-    ((quiet-reserved_by profile.crash (added_bytes (reach given) before.map) given.options.crash).each made.items)) before last
+crash_bound : (profile : Profile) (inputs : InputsView) → Keeps bound_by (crash_area_stage profile inputs)
+crash_bound profile inputs before last =
+    steps_keep bound_by cause_of_growth made_with_crash_area (reserve_for_map profile inputs before.map) (λ a m. refl)
+    (λ made. quiet-appended_limit made.items (reserve_for_map profile inputs before.map made.items).steps
+    ((quiet-reserved_by profile.crash (added_bytes (reach inputs) before.map) inputs.options.crash).each made.items)) before last
 
 quiet_sections : (width : Width) → KeepsMemory (place_present_sections width)
 unfolding place_present_sections
 quiet_sections width = search (quiet-bind, quiet-listed, quiet-roots, quiet-maps, quiet-returns)
 
 -- the stage of the sections leaves the labels as they are
-pub section_labels : (given : InputsView) → Keeps labels_by (sections_stage given)
-section_labels given =
-    steps_keep labels_by cause_of_stage made_with_sections (place_present_sections given.width) (λ a m. refl)
-    (λ before. quiet-appended_memory before.items (place_present_sections given.width before.items).steps
-    ((quiet_sections given.width).each before.items))
+pub section_labels : (inputs : InputsView) → Keeps labels_by (sections_stage inputs)
+section_labels inputs =
+    steps_keep labels_by cause_of_stage made_with_sections (place_present_sections inputs.width) (λ a m. refl)
+    (λ before. quiet-appended_memory before.items (place_present_sections inputs.width before.items).steps
+    ((quiet_sections inputs.width).each before.items))
 
 -- the stage of the sections leaves the limit as it is
-section_bound : (given : InputsView) → Keeps bound_by (sections_stage given)
-section_bound given =
-    steps_keep bound_by cause_of_stage made_with_sections (place_present_sections given.width) (λ a m. refl)
-    (λ before. quiet-appended_limit before.items (place_present_sections given.width before.items).steps
-    ((quiet_sections given.width).each before.items))
+section_bound : (inputs : InputsView) → Keeps bound_by (sections_stage inputs)
+section_bound inputs =
+    steps_keep bound_by cause_of_stage made_with_sections (place_present_sections inputs.width) (λ a m. refl)
+    (λ before. quiet-appended_limit before.items (place_present_sections inputs.width before.items).steps
+    ((quiet_sections inputs.width).each before.items))
 
 -- a stage that leaves the labels as they are doesn't change which bytes are memory
 by_labels : (stage : Stage) → Keeps labels_by stage → Keeps held_by stage
 by_labels stage keeps before last ends = let held : Labels → ℕ → Bool = λ f x. is_some (f x) in ap held (keeps before last ends)
 
 -- the stages after the nodes leave the labels as they are
-pub labels_keep : (extra : ExtraView) (given : InputsView) → AllKeep labels_by (drop 3 (later_stages extra given))
-labels_keep extra given =
-    let before = lines_labels given.kernel (lines_before_sections given.lines) in
-    let behind = lines_labels given.kernel (lines_after_sections given.lines) in
-    (crash_labels extra.profile given, (before, (section_labels given, (behind, tt))))
+pub labels_keep : (extra : ExtraView) (inputs : InputsView) → AllKeep labels_by (drop 3 (later_stages extra inputs))
+labels_keep extra inputs =
+    let before = lines_labels inputs.kernel (lines_before_sections inputs.lines) in
+    let behind = lines_labels inputs.kernel (lines_after_sections inputs.lines) in
+    (crash_labels extra.profile inputs, (before, (section_labels inputs, (behind, tt))))
 
 -- the stages after memory is made don't change which bytes are memory
-memory_keep : (extra : ExtraView) (given : InputsView) → AllKeep held_by (drop 1 (later_stages extra given))
-memory_keep extra given =
-    let before = by_labels _ (lines_labels given.kernel (lines_before_sections given.lines)) in
-    let behind = by_labels _ (lines_labels given.kernel (lines_after_sections given.lines)) in (
-      by_labels _ (claims_labels given.kernel extra.claims),
-      (nodes_hold given, (by_labels _ (crash_labels extra.profile given), (before, (by_labels _ (section_labels given), (behind, tt))))),
+memory_keep : (extra : ExtraView) (inputs : InputsView) → AllKeep held_by (drop 1 (later_stages extra inputs))
+memory_keep extra inputs =
+    let before = by_labels _ (lines_labels inputs.kernel (lines_before_sections inputs.lines)) in
+    let behind = by_labels _ (lines_labels inputs.kernel (lines_after_sections inputs.lines)) in (
+      by_labels _ (claims_labels inputs.kernel extra.claims),
+      (nodes_hold inputs, (by_labels _ (crash_labels extra.profile inputs), (before, (by_labels _ (section_labels inputs), (behind, tt))))),
     )
 
 -- the stages after memory is made leave the limit as it is
-limit_keep : (extra : ExtraView) (given : InputsView) → AllKeep bound_by (drop 1 (later_stages extra given))
-limit_keep extra given =
-    let before = lines_bound given.kernel (lines_before_sections given.lines) in
-    let behind = lines_bound given.kernel (lines_after_sections given.lines) in (
-      claims_bound given.kernel extra.claims,
-      (nodes_bound given, (crash_bound extra.profile given, (before, (section_bound given, (behind, tt))))),
+limit_keep : (extra : ExtraView) (inputs : InputsView) → AllKeep bound_by (drop 1 (later_stages extra inputs))
+limit_keep extra inputs =
+    let before = lines_bound inputs.kernel (lines_before_sections inputs.lines) in
+    let behind = lines_bound inputs.kernel (lines_after_sections inputs.lines) in (
+      claims_bound inputs.kernel extra.claims,
+      (nodes_bound inputs, (crash_bound extra.profile inputs, (before, (section_bound inputs, (behind, tt))))),
     )
 
 -- after the boot, which bytes are memory, and the limit, are as the stage left them that made
 -- memory
-pub record HasMemory (given : InputsView) (made : BootSoFar) : Type 0 where
+pub record HasMemory (inputs : InputsView) (made : BootSoFar) : Type 0 where
   pub first : BootSoFar
-  pub carried : carry_out_items (early_items (early_inputs given) (map_of (claims given))) [] ≡ Ok first.items
+  pub carried : carry_out_items (early_items (early_inputs inputs) (map_of (claims inputs))) [] ≡ Ok first.items
   pub memory : held_by made ≡ held_by first
   pub limit : limit_of made.items ≡ limit_of first.items
 
-pub memory_made : (extra : ExtraView) (given : InputsView) (made : BootSoFar) → boot_with extra given ≡ Ok made → HasMemory given made
+pub memory_made : (extra : ExtraView) (inputs : InputsView) (made : BootSoFar) → boot_with extra inputs ≡ Ok made → HasMemory inputs made
 unfolding boot_with
-memory_made extra given made ends =
-    let judged = goes_by (judge_map given) (λ m. run_each_stage (later_stages extra given) m) made ends in
-    let behind = passes (memory_stage given) (drop 1 (later_stages extra given)) judged.middle made judged.rest in
-    let known = accepted_map_is_unchanged given judged.middle judged.first in
+memory_made extra inputs made ends =
+    let judged = goes_by (judge_map inputs) (λ m. run_each_stage (later_stages extra inputs) m) made ends in
+    let behind = passes (memory_stage inputs) (drop 1 (later_stages extra inputs)) judged.middle made judged.rest in
+    let known = accepted_map_is_unchanged inputs judged.middle judged.first in
     record {
       first = behind.middle;
-      carried = ap (λ (m : BootSoFar). carry_out_items (early_items (early_inputs given) m.map) m.items) (sym known.0)
-          ∙ memory_carried given judged.middle behind.middle behind.first;
-      memory = chain_keeps held_by (drop 1 (later_stages extra given)) (memory_keep extra given) behind.middle made behind.rest;
-      limit = chain_keeps bound_by (drop 1 (later_stages extra given)) (limit_keep extra given) behind.middle made behind.rest;
+      carried = ap (λ (m : BootSoFar). carry_out_items (early_items (early_inputs inputs) m.map) m.items) (sym known.0)
+          ∙ memory_carried inputs judged.middle behind.middle behind.first;
+      memory = chain_keeps held_by (drop 1 (later_stages extra inputs)) (memory_keep extra inputs) behind.middle made behind.rest;
+      limit = chain_keeps bound_by (drop 1 (later_stages extra inputs)) (limit_keep extra inputs) behind.middle made behind.rest;
     }
 
 -- below the limit of physical addresses, the map has the types that the claims give
@@ -192,8 +192,8 @@ reached_same limit c x small =
       | inr past ↦ rw past refl
     ]
 
-pub types_same : (given : InputsView) → types_below (reach given) (value_at (map_of (claims given))) ≡ types_in_reach given
-types_same given = λ i x. reached_same (reach given) (claims given) x (reach-small given) i
+pub types_same : (inputs : InputsView) → types_below (reach inputs) (value_at (map_of (claims inputs))) ≡ types_in_reach inputs
+types_same inputs = λ i x. reached_same (reach inputs) (claims inputs) x (reach-small inputs) i
 
 some_is : (b : Bool) → is_some (if b then Some plain_label else None) ≡ b
 some_is true = refl
@@ -209,22 +209,22 @@ mirrored_some : (mirrors : List FrameRange) (f : Labels) (x : ℕ) → is_some (
 mirrored_some mirrors f x = mapped_some (is_mirrored mirrors x) (f x)
 
 -- a byte is memory exactly if its frame is usable
-pub booted_memory_is_usable : (extra : ExtraView) (given : InputsView) (made : BootSoFar) (x : ℕ) → boot_with extra given ≡ Ok made
-    → is_some (memory_of made.items x) ≡ is_usable_frame (types_in_reach given) (x / 4096)
-booted_memory_is_usable extra given made x ends =
-    let known : HasMemory given made = memory_made extra given made ends in
-    let map : List (RunOf ℕ) = map_of (claims given) in
-    let reached : TypeAt = types_below (reach given) (value_at map) in
-    let first = first_memory (early_inputs given) map known.first.items (map_between (claims given)).runs known.carried x in
+pub booted_memory_is_usable : (extra : ExtraView) (inputs : InputsView) (made : BootSoFar) (x : ℕ) → boot_with extra inputs ≡ Ok made
+    → is_some (memory_of made.items x) ≡ is_usable_frame (types_in_reach inputs) (x / 4096)
+booted_memory_is_usable extra inputs made x ends =
+    let known : HasMemory inputs made = memory_made extra inputs made ends in
+    let map : List (RunOf ℕ) = map_of (claims inputs) in
+    let reached : TypeAt = types_below (reach inputs) (value_at map) in
+    let first = first_memory (early_inputs inputs) map known.first.items (map_between (claims inputs)).runs known.carried x in
     ap (λ (h : ℕ → Bool). h x) known.memory ∙ ap is_some first
-    ∙ mirrored_some (all_mirrors given) (usable_memory (reach given) (value_at map)) x
+    ∙ mirrored_some (all_mirrors inputs) (usable_memory (reach inputs) (value_at map)) x
     ∙ some_is (is_usable_frame reached (x / 4096))
-    ∙ ap (λ (t : TypeAt). is_usable_frame t (x / 4096)) (types_same given)
+    ∙ ap (λ (t : TypeAt). is_usable_frame t (x / 4096)) (types_same inputs)
 
 -- the limit is the end of the last usable frame
-pub limit_is_memory_end : (extra : ExtraView) (given : InputsView) (made : BootSoFar) → boot_with extra given ≡ Ok made
-    → limit_of made.items ≡ memory_end (reach given) (kinds (claims given))
-limit_is_memory_end extra given made ends =
-    let known : HasMemory given made = memory_made extra given made ends in
-    known.limit ∙ first_limit (early_inputs given) (map_of (claims given)) known.first.items known.carried
-    ∙ memory_end-same (reach given) (value_at (map_of (claims given))) (kinds (claims given)) (types_same given)
+pub limit_is_memory_end : (extra : ExtraView) (inputs : InputsView) (made : BootSoFar) → boot_with extra inputs ≡ Ok made
+    → limit_of made.items ≡ memory_end (reach inputs) (kinds (claims inputs))
+limit_is_memory_end extra inputs made ends =
+    let known : HasMemory inputs made = memory_made extra inputs made ends in
+    known.limit ∙ first_limit (early_inputs inputs) (map_of (claims inputs)) known.first.items known.carried
+    ∙ memory_end-same (reach inputs) (value_at (map_of (claims inputs))) (kinds (claims inputs)) (types_same inputs)

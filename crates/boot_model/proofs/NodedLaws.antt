@@ -67,36 +67,37 @@ end_some limit f some = elim (cases_lt 0 (memory_end limit f)) [
 ]
 
 -- what is known of memory after it was made from an accepted map
-pub first_known : (given : InputsView) (made : BootSoFar) (items : List Item) → judge_map given ≡ Ok made
-    → carry_out_items (early_items (early_inputs given) made.map) made.items ≡ Ok items → IsFirstMemory (reach given) items
-first_known given made items ends carried =
-    let known = accepted_map_is_unchanged given made ends in
-    let map : List (RunOf ℕ) = map_of (claims given) in
-    let from : carry_out_items (early_items (early_inputs given) map) [] ≡ Ok items =
-    ap (λ (m : BootSoFar). carry_out_items (early_items (early_inputs given) m.map) m.items) (sym known.0) ∙ carried in
-    let memory : memory_of items ≡ mirrored_memory (all_mirrors given) (usable_memory (reach given) (value_at map)) = λ i x.
-    first_memory (early_inputs given) map items (map_between (claims given)).runs from x i in
-    let limit : limit_of items ≡ memory_end (reach given) (value_at map) =
-    first_limit (early_inputs given) map items from in
-    let below : memory_end (reach given) (value_at map) ≤ reach given =
-    (end_reached (reach given) (value_at map) _ (memory_end-is (reach given) (value_at map))).0 in
-    let some : 0 < usable_frames (types_below (reach given) (value_at map)) = rw (types_same given) (frames_within _ known.1).0 in
-    let whole : IsConstantInFrames (usable_memory (reach given) (value_at map)) = λ x.
+pub first_known : (inputs : InputsView) (made : BootSoFar) (items : List Item) → judge_map inputs ≡ Ok made
+    → carry_out_items (early_items (early_inputs inputs) made.map) made.items ≡ Ok items → IsFirstMemory (reach inputs) items
+first_known inputs made items ends carried =
+    let known = accepted_map_is_unchanged inputs made ends in
+    let map : List (RunOf ℕ) = map_of (claims inputs) in
+    let from : carry_out_items (early_items (early_inputs inputs) map) [] ≡ Ok items =
+    ap (λ (m : BootSoFar). carry_out_items (early_items (early_inputs inputs) m.map) m.items) (sym known.0) ∙ carried in
+    let memory : memory_of items ≡ mirrored_memory (all_mirrors inputs) (usable_memory (reach inputs) (value_at map)) = λ i x.
+    first_memory (early_inputs inputs) map items (map_between (claims inputs)).runs from x i in
+    let limit : limit_of items ≡ memory_end (reach inputs) (value_at map) =
+    first_limit (early_inputs inputs) map items from in
+    let below : memory_end (reach inputs) (value_at map) ≤ reach inputs =
+    (end_reached (reach inputs) (value_at map) _ (memory_end-is (reach inputs) (value_at map))).0 in
+    let some : 0 < usable_frames (types_below (reach inputs) (value_at map)) = rw (types_same inputs) (frames_within _ known.1).0 in
+    let whole : IsConstantInFrames (usable_memory (reach inputs) (value_at map)) = λ x.
     let same : (4096 * (x / 4096)) / 4096 ≡ x / 4096 = omega arith in rw same refl in
     record {
-      frames = rw memory (mirrored_whole (all_mirrors given) (usable_memory (reach given) (value_at map)) whole);
-      within = rw memory (past_end (reach given) (value_at map) (all_mirrors given) (reach given) below);
-      low = rw memory (past_end (reach given) (value_at map) (all_mirrors given) (limit_of items) (omega (arith, limit)));
-      some = rw limit (end_some (reach given) (value_at map) some);
+      frames = rw memory (mirrored_whole (all_mirrors inputs) (usable_memory (reach inputs) (value_at map)) whole);
+      within = rw memory (past_end (reach inputs) (value_at map) (all_mirrors inputs) (reach inputs) below);
+      low = rw memory (past_end (reach inputs) (value_at map) (all_mirrors inputs) (limit_of items) (omega (arith, limit)));
+      some = rw limit (end_some (reach inputs) (value_at map) some);
     }
 
 -- what is known of memory after the nodes were assigned
-pub nodes_known : (given : InputsView) (before last : BootSoFar) → IsFirstMemory (reach given) before.items
-    → nodes_stage given before ≡ Ok last
-    → IsMemoryWithNodes (reach given) (labels_by last)
-nodes_known given before last first ends =
-    let told = steps_answered cause_of_stage made_with_nodes (assign_nodes given.domains given.options.numa_off) before last ends in
-    rw told.same (answer-noded (reach given) given.domains given.options.numa_off before.items told.value told.answer (reach-below given)
+pub nodes_known : (inputs : InputsView) (before last : BootSoFar) → IsFirstMemory (reach inputs) before.items
+    → nodes_stage inputs before ≡ Ok last
+    → IsMemoryWithNodes (reach inputs) (labels_by last)
+nodes_known inputs before last first ends =
+    let told = steps_answered cause_of_stage made_with_nodes (assign_nodes inputs.domains inputs.options.numa_off) before last ends in
+    rw told.same (answer-noded (reach inputs) inputs.domains inputs.options.numa_off before.items told.value told.answer
+    (reach-below inputs)
     first.frames first.within first.low)
 
 -- early claims leave memory and the limit as they are
@@ -113,34 +114,34 @@ first_after_claims reach kernel lines before last first ends =
     }
 
 -- memory after the early claims, if the boot goes on with the map
-pub claimed_known : (given : InputsView) (lines : List Line) (first made : BootSoFar) → judge_map given ≡ Ok first
-    → run_each_stage (memory_stage given ∷ claims_stage given.kernel lines ∷ []) first ≡ Ok made → IsFirstMemory (reach given) made.items
-claimed_known given lines first made judged ends =
-    let behind = passes (memory_stage given) (claims_stage given.kernel lines ∷ []) first made ends in
-    let early = passes (claims_stage given.kernel lines) [] behind.middle made behind.rest in
-    let known = first_known given first behind.middle.items judged (memory_carried given first behind.middle behind.first) in
+pub claimed_known : (inputs : InputsView) (lines : List Line) (first made : BootSoFar) → judge_map inputs ≡ Ok first
+    → run_each_stage (memory_stage inputs ∷ claims_stage inputs.kernel lines ∷ []) first ≡ Ok made → IsFirstMemory (reach inputs) made.items
+claimed_known inputs lines first made judged ends =
+    let behind = passes (memory_stage inputs) (claims_stage inputs.kernel lines ∷ []) first made ends in
+    let early = passes (claims_stage inputs.kernel lines) [] behind.middle made behind.rest in
+    let known = first_known inputs first behind.middle.items judged (memory_carried inputs first behind.middle behind.first) in
     let same : early.middle ≡ made = cc (early.rest) in
-    rw (← same) (first_after_claims (reach given) given.kernel lines behind.middle early.middle known early.first)
+    rw (← same) (first_after_claims (reach inputs) inputs.kernel lines behind.middle early.middle known early.first)
 
 -- memory has its nodes after any later stages that leave its labels, for example at the end of the
 -- boot
-pub later_memory_has_nodes : (given : InputsView) (lines : List Line) (first made : BootSoFar) (rest : List Stage)
-    → judge_map given ≡ Ok first
+pub later_memory_has_nodes : (inputs : InputsView) (lines : List Line) (first made : BootSoFar) (rest : List Stage)
+    → judge_map inputs ≡ Ok first
     → AllKeep labels_by rest
-    → run_each_stage (memory_stage given ∷ claims_stage given.kernel lines ∷ nodes_stage given ∷ rest) first ≡ Ok made
-    → IsMemoryWithNodes (reach given) (memory_of made.items)
-later_memory_has_nodes given lines first made rest judged keep ends =
-    let behind = passes (memory_stage given) (claims_stage given.kernel lines ∷ nodes_stage given ∷ rest) first made ends in
-    let early = passes (claims_stage given.kernel lines) (nodes_stage given ∷ rest) behind.middle made behind.rest in
-    let nodes = passes (nodes_stage given) rest early.middle made early.rest in
-    let known = first_known given first behind.middle.items judged (memory_carried given first behind.middle behind.first) in
-    let claimed = first_after_claims (reach given) given.kernel lines behind.middle early.middle known early.first in
-    rw (chain_keeps labels_by rest keep nodes.middle made nodes.rest) (nodes_known given early.middle nodes.middle claimed nodes.first)
+    → run_each_stage (memory_stage inputs ∷ claims_stage inputs.kernel lines ∷ nodes_stage inputs ∷ rest) first ≡ Ok made
+    → IsMemoryWithNodes (reach inputs) (memory_of made.items)
+later_memory_has_nodes inputs lines first made rest judged keep ends =
+    let behind = passes (memory_stage inputs) (claims_stage inputs.kernel lines ∷ nodes_stage inputs ∷ rest) first made ends in
+    let early = passes (claims_stage inputs.kernel lines) (nodes_stage inputs ∷ rest) behind.middle made behind.rest in
+    let nodes = passes (nodes_stage inputs) rest early.middle made early.rest in
+    let known = first_known inputs first behind.middle.items judged (memory_carried inputs first behind.middle behind.first) in
+    let claimed = first_after_claims (reach inputs) inputs.kernel lines behind.middle early.middle known early.first in
+    rw (chain_keeps labels_by rest keep nodes.middle made nodes.rest) (nodes_known inputs early.middle nodes.middle claimed nodes.first)
 
-pub noded_told : (extra : ExtraView) (given : InputsView) (made : BootSoFar) → boot_with extra given ≡ Ok made
-    → IsMemoryWithNodes (reach given) (memory_of made.items)
+pub noded_told : (extra : ExtraView) (inputs : InputsView) (made : BootSoFar) → boot_with extra inputs ≡ Ok made
+    → IsMemoryWithNodes (reach inputs) (memory_of made.items)
 unfolding boot_with
-noded_told extra given made ends =
-    let judged = goes_by (judge_map given) (λ m. run_each_stage (later_stages extra given) m) made ends in
-    later_memory_has_nodes given extra.claims judged.middle made (drop 3 (later_stages extra given)) judged.first
-    (labels_keep extra given) judged.rest
+noded_told extra inputs made ends =
+    let judged = goes_by (judge_map inputs) (λ m. run_each_stage (later_stages extra inputs) m) made ends in
+    later_memory_has_nodes inputs extra.claims judged.middle made (drop 3 (later_stages extra inputs)) judged.first
+    (labels_keep extra inputs) judged.rest

@@ -59,9 +59,9 @@ answer_errs P cause put next (Err e) errs = errs e
 
 steps_errs : {E A : Type 0} (frames : ℕ) (cause : E → Cause) (put : A → BootSoFar → BootSoFar) (doing : StageStep E A)
     → ((e : E) → IsTold frames (cause e)) → (made : BootSoFar) → IfErr (stage_of_steps cause put doing made) (IsTold frames)
-steps_errs frames cause put doing told made =
+steps_errs frames cause put doing booted made =
     answer_errs (IsTold frames) cause put (record made { items = items_after_step made.items (doing made.items) })
-    (doing made.items).answer told
+    (doing made.items).answer booted
 
 growth_told : (frames : ℕ) (refused : RefusedGrowth) → IsTold frames (cause_of_growth refused)
 growth_told frames refused = λ same. absurd (cc same)
@@ -71,36 +71,36 @@ stage_told frames (NoPlace thing) = λ same. absurd (cc same)
 stage_told frames (NoTablePlace w room) = λ same. absurd (cc same)
 
 -- the errors of the stages that accept the map satisfy `IsTold`
-map_errs : (given : InputsView) → AllErr (IsTold (usable_frames (types_in_reach given))) (map_stages given)
+map_errs : (inputs : InputsView) → AllErr (IsTold (usable_frames (types_in_reach inputs))) (map_stages inputs)
 unfolding AllErr
-map_errs given =
-    let frames : ℕ = usable_frames (types_in_reach given) in
+map_errs inputs =
+    let frames : ℕ = usable_frames (types_in_reach inputs) in
     let room = λ (made : BootSoFar). room_errs frames (nat_lt E820_MAX_ENTRIES (length made.map)) (length made.map) made in
     (room, ((λ made. frames_errs frames (frames == 0) (nat_lt (2 ^ 32) frames) made refl), tt))
 
-later_errs : (extra : ExtraView) (given : InputsView) → AllErr (IsTold (usable_frames (types_in_reach given))) (later_stages extra given)
+later_errs : (extra : ExtraView) (inputs : InputsView) → AllErr (IsTold (usable_frames (types_in_reach inputs))) (later_stages extra inputs)
 unfolding AllErr
-later_errs extra given =
-    let frames : ℕ = usable_frames (types_in_reach given) in
+later_errs extra inputs =
+    let frames : ℕ = usable_frames (types_in_reach inputs) in
     let memory = λ (made : BootSoFar). steps_errs frames cause_of_growth (λ done next. next)
-    (items_with_growths (early_items (early_inputs given) made.map)) (growth_told frames) made in
-    let nodes = steps_errs frames cause_of_stage made_with_nodes (assign_nodes given.domains given.options.numa_off)
+    (items_with_growths (early_items (early_inputs inputs) made.map)) (growth_told frames) made in
+    let nodes = steps_errs frames cause_of_stage made_with_nodes (assign_nodes inputs.domains inputs.options.numa_off)
     (stage_told frames) in
-    let crash = λ (made : BootSoFar). steps_errs frames cause_of_growth made_with_crash_area (reserve_for_map extra.profile given made.map)
+    let crash = λ (made : BootSoFar). steps_errs frames cause_of_growth made_with_crash_area (reserve_for_map extra.profile inputs made.map)
     (growth_told frames) made in
-    let sections = steps_errs frames cause_of_stage made_with_sections (place_present_sections given.width) (stage_told frames) in
+    let sections = steps_errs frames cause_of_stage made_with_sections (place_present_sections inputs.width) (stage_told frames) in
     (memory, ((λ made. tt), (nodes, (crash, ((λ made. tt), (sections, ((λ made. tt), tt)))))))
 
 told_of : (said : Result BootSoFar Cause) (frames : ℕ) → IfErr said (IsTold frames) → said ≡ Err causes.NoRam → frames ≡ 0
 told_of (Ok made) frames errs is = absurd (cc is)
 told_of (Err cause) frames errs is = errs (cc is)
 
-pub no_ram_told : (extra : ExtraView) (given : InputsView) → boot_with extra given ≡ Err causes.NoRam
-    → usable_frames (types_in_reach given) ≡ 0
+pub no_ram_told : (extra : ExtraView) (inputs : InputsView) → boot_with extra inputs ≡ Err causes.NoRam
+    → usable_frames (types_in_reach inputs) ≡ 0
 unfolding boot_with
-no_ram_told extra given stops =
-    let frames : ℕ = usable_frames (types_in_reach given) in
-    told_of (boot_with extra given) frames
-    (then_errs (IsTold frames) (judge_map given) (λ made. run_each_stage (later_stages extra given) made)
-    (chain_errs (IsTold frames) (map_stages given) (map_errs given) (begin_boot given))
-    (chain_errs (IsTold frames) (later_stages extra given) (later_errs extra given))) stops
+no_ram_told extra inputs stops =
+    let frames : ℕ = usable_frames (types_in_reach inputs) in
+    told_of (boot_with extra inputs) frames
+    (then_errs (IsTold frames) (judge_map inputs) (λ made. run_each_stage (later_stages extra inputs) made)
+    (chain_errs (IsTold frames) (map_stages inputs) (map_errs inputs) (begin_boot inputs))
+    (chain_errs (IsTold frames) (later_stages extra inputs) (later_errs extra inputs))) stops

@@ -13,11 +13,11 @@ width-whole : (width : Width) → address_limit_of width % 4096 ≡ 0
 width-whole Bits46 = refl
 width-whole Bits52 = refl
 
-pub reach-small : (given : InputsView) → reach given ≤ 2 ^ 52
-reach-small given = width-small given.width
+pub reach-small : (inputs : InputsView) → reach inputs ≤ 2 ^ 52
+reach-small inputs = width-small inputs.width
 
-pub reach-below : (given : InputsView) → reach given ≤ 2 ^ 64
-reach-below given = let small : reach given ≤ 2 ^ 52 = reach-small given in omega (arith, small)
+pub reach-below : (inputs : InputsView) → reach inputs ≤ 2 ^ 64
+reach-below inputs = let small : reach inputs ≤ 2 ^ 52 = reach-small inputs in omega (arith, small)
 
-pub reach-whole : (given : InputsView) → reach given % 4096 ≡ 0
-reach-whole given = width-whole given.width
+pub reach-whole : (inputs : InputsView) → reach inputs % 4096 ≡ 0
+reach-whole inputs = width-whole inputs.width

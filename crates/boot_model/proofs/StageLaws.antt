@@ -69,7 +69,7 @@ answered cause put next last (Err error) ends = absurd (cc)
 pub steps_answered : {E A : Type 0} (cause : E → Cause) (put : A → BootSoFar → BootSoFar) (doing : StageStep E A) (before last : BootSoFar)
     → stage_of_steps cause put doing before ≡ Ok last → Answered put doing before last
 steps_answered cause put doing before last ends =
-    let told = answered cause put (record before { items = items_after_step before.items (doing before.items) }) last
+    let booted = answered cause put (record before { items = items_after_step before.items (doing before.items) }) last
     (doing before.items).answer
     ends in
-    record { value = told.0; answer = told.1; same = told.2 }
+    record { value = booted.0; answer = booted.1; same = booted.2 }

@@ -119,7 +119,7 @@ inputs_without_files width kernel = record {
 
 -- the limit of physical addresses, in bytes (`MAX_PHYSMEM_BITS`)
 abbrev pub reach : InputsView → ℕ
-reach given = address_limit_of given.width
+reach inputs = address_limit_of inputs.width
 
 -- the mirrored frames of the EFI map (`efi_find_mirror`)
 abbrev pub efi_mirrors : Option EfiMapView → List FrameRange
@@ -128,16 +128,16 @@ efi_mirrors (Some efi) = efi.mirrors
 
 -- the mirrored frames: those that the command words name, and then those of the EFI map
 abbrev pub all_mirrors : InputsView → List FrameRange
-all_mirrors given = given.mirrors ++ efi_mirrors given.efi
+all_mirrors inputs = inputs.mirrors ++ efi_mirrors inputs.efi
 
 -- the inputs of the early stages, before memory has nodes; the map is given apart from them
 abbrev pub early_inputs : InputsView → EarlyInputs
-early_inputs given = record {
-  limit = reach given;
-  kernel = given.kernel;
-  initrd = given.initrd;
-  mirrors = all_mirrors given;
-  upward = given.upward;
+early_inputs inputs = record {
+  limit = reach inputs;
+  kernel = inputs.kernel;
+  initrd = inputs.initrd;
+  mirrors = all_mirrors inputs;
+  upward = inputs.upward;
 }
 
 -- What a boot has made so far: the map, the options, what happened to memory (oldest first), the
@@ -193,11 +193,11 @@ efi_entries (Some efi) = efi.entries
 
 -- the entries of the EFI map if the command line asks for them (`add_efi_memmap`), else none
 abbrev pub added_entries : InputsView → List Entry
-added_entries given = if given.options.add_efi then efi_entries given.efi else []
+added_entries inputs = if inputs.options.add_efi then efi_entries inputs.efi else []
 
 -- the claims of the finished map: the typed ranges that the entries and the edits give
 abbrev pub claims : InputsView → Claims
-claims given = final_claims given.entries given.extension given.options.edits (added_entries given)
+claims inputs = final_claims inputs.entries inputs.extension inputs.options.edits (added_entries inputs)
 
 -- the heads of memblock's two tables (address, number of records and room of each) after `items`
 abbrev pub heads_of : RangeView → List Item → Heads
@@ -227,17 +227,17 @@ booted_address_limit finish_boot = address_limit_of finish_boot.width
 -- for each node, the zones with memory, in the order in which an allocation for the node tries them
 -- (`build_zonelists`)
 abbrev pub booted_zonelists : InputsView → BootSoFar → ZoneListsView
-booted_zonelists given made = zonelists_from_slit given.slit made.nodes.domains (spans_of_memory made.items)
+booted_zonelists inputs made = zonelists_from_slit inputs.slit made.nodes.domains (spans_of_memory made.items)
 
 -- what is reported of the boot; the page script runs on a copy of the frames that were handed over,
 -- and none of them is allocated at first
 abbrev pub finish_boot_by : Profile → InputsView → BootSoFar → BootedView
-finish_boot_by profile given made = record {
-  width = given.width;
+finish_boot_by profile inputs made = record {
+  width = inputs.width;
   map = made.map;
   options = made.options;
   items = made.items;
-  heads = heads_of given.kernel made.items;
+  heads = heads_of inputs.kernel made.items;
   nodes = made.nodes;
   crash = made.crash;
   sections = made.sections;
@@ -245,14 +245,14 @@ finish_boot_by profile given made = record {
   answers = made.answers;
   spans = spans_by_rule profile.zones made.items;
   free = handover_frames made.items;
-  lists = booted_zonelists given made;
-  page_answers = page_answers_of (booted_zonelists given made) (first_page_state (handover_frames made.items)) given.page_lines;
-  after = page_state_after (booted_zonelists given made) (first_page_state (handover_frames made.items)) given.page_lines;
+  lists = booted_zonelists inputs made;
+  page_answers = page_answers_of (booted_zonelists inputs made) (first_page_state (handover_frames made.items)) inputs.page_lines;
+  after = page_state_after (booted_zonelists inputs made) (first_page_state (handover_frames made.items)) inputs.page_lines;
 }
 
 -- what is reported of a boot with `bootmem`'s own profile
 abbrev pub finish_boot : InputsView → BootSoFar → BootedView
-finish_boot given made = finish_boot_by own_profile given made
+finish_boot inputs made = finish_boot_by own_profile inputs made
 
 -- the state in which a boot with this map begins: nothing has happened to memory yet
 abbrev pub begin_with_map : List (RunOf ℕ) → OptionsView → BootSoFar
@@ -271,11 +271,11 @@ begin_with_map map options = record {
 
 -- the state in which a boot begins, with the map that its claims give
 abbrev pub begin_boot : InputsView → BootSoFar
-begin_boot given = begin_with_map (map_of (claims given)) given.options
+begin_boot inputs = begin_with_map (map_of (claims inputs)) inputs.options
 
 -- the type of each address below the limit of physical addresses
 abbrev pub types_in_reach : InputsView → TypeAt
-types_in_reach given = types_below (reach given) (kinds (claims given))
+types_in_reach inputs = types_below (reach inputs) (kinds (claims inputs))
 
 -- stops the boot if the map has more runs than the kernel's table has room for (`E820_MAX_ENTRIES`)
 abbrev pub map_size_stage : Stage
@@ -289,16 +289,16 @@ made_or_stop (Some reason) made = Err (cause_of_map reason)
 -- stops the boot if no frame below the limit of physical addresses is usable, or too many are
 -- (`e820__memblock_setup`)
 abbrev pub usable_frames_stage : InputsView → Stage
-usable_frames_stage given made = made_or_stop (judge_frames (types_in_reach given)) made
+usable_frames_stage inputs made = made_or_stop (judge_frames (types_in_reach inputs)) made
 
 -- the stages that accept the map or stop the boot
 abbrev pub map_stages : InputsView → List Stage
-map_stages given = map_size_stage ∷ usable_frames_stage given ∷ []
+map_stages inputs = map_size_stage ∷ usable_frames_stage inputs ∷ []
 
 -- the state after the stages that accept the map, or the cause for which one of them stops the
 -- boot
 abbrev pub judge_map : InputsView → Result BootSoFar Cause
-judge_map given = run_each_stage (map_stages given) (begin_boot given)
+judge_map inputs = run_each_stage (map_stages inputs) (begin_boot inputs)
 
 -- the state before the next lines of the early script, from what the boot has made so far
 abbrev pub script_state : RangeView → BootSoFar → ScriptSoFar
@@ -350,8 +350,8 @@ stage_of_steps cause put doing made = finish_steps cause put made (doing made.it
 -- makes the first claims, turns the map into memory in whole frames, and claims the first MiB
 -- (`early_reserve_memory`, `e820__memblock_setup`, `reserve_real_mode`)
 abbrev pub memory_stage : InputsView → Stage
-memory_stage given made =
-    stage_of_steps cause_of_growth (λ done next. next) (items_with_growths (early_items (early_inputs given) made.map)) made
+memory_stage inputs made =
+    stage_of_steps cause_of_growth (λ done next. next) (items_with_growths (early_items (early_inputs inputs) made.map)) made
 
 -- what the boot has made, with its nodes replaced by `nodes`
 abbrev pub made_with_nodes : NodesView → BootSoFar → BootSoFar
@@ -359,7 +359,7 @@ made_with_nodes nodes made = record made { nodes = nodes }
 
 -- gives memory its nodes, and each node its data (`initmem_init`)
 abbrev pub nodes_stage : InputsView → Stage
-nodes_stage given = stage_of_steps cause_of_stage made_with_nodes (assign_nodes given.domains given.options.numa_off)
+nodes_stage inputs = stage_of_steps cause_of_stage made_with_nodes (assign_nodes inputs.domains inputs.options.numa_off)
 
 -- what the boot has made, with its outcome for the crash area replaced by `area`
 abbrev pub made_with_crash_area : Crash → BootSoFar → BootSoFar
@@ -367,10 +367,10 @@ made_with_crash_area area made = record made { crash = area }
 
 -- reserves the crash area by the profile's rule (`reserve_crashkernel`)
 abbrev pub reserve_for_map : Profile → InputsView → List (RunOf ℕ) → StageStep RefusedGrowth Crash
-reserve_for_map profile given map = reserve_crash_area_by profile.crash (added_bytes (reach given) map) given.options.crash
+reserve_for_map profile inputs map = reserve_crash_area_by profile.crash (added_bytes (reach inputs) map) inputs.options.crash
 
 abbrev pub crash_area_stage : Profile → InputsView → Stage
-crash_area_stage profile given made = stage_of_steps cause_of_growth made_with_crash_area (reserve_for_map profile given made.map) made
+crash_area_stage profile inputs made = stage_of_steps cause_of_growth made_with_crash_area (reserve_for_map profile inputs made.map) made
 
 -- what the boot has made, with its places of sections replaced by `sections`
 abbrev pub made_with_sections : SectionPlaces → BootSoFar → BootSoFar
@@ -378,36 +378,36 @@ made_with_sections sections made = record made { sections = sections }
 
 -- allocates the roots, the usage data and the maps of all sections that have memory (`sparse_init`)
 abbrev pub sections_stage : InputsView → Stage
-sections_stage given = stage_of_steps cause_of_stage made_with_sections (place_present_sections given.width)
+sections_stage inputs = stage_of_steps cause_of_stage made_with_sections (place_present_sections inputs.width)
 
 -- The stages after the map, in their order. The early claims come once the first MiB is claimed,
 -- before memory gets its nodes. The `sections` line of the early script says where among its lines
 -- the sections are placed.
 abbrev pub later_stages : ExtraView → InputsView → List Stage
-later_stages extra given =
-    memory_stage given ∷ claims_stage given.kernel extra.claims ∷ nodes_stage given ∷ crash_area_stage extra.profile given
-    ∷ script_stage given.kernel (lines_before_sections given.lines)
-    ∷ sections_stage given
-    ∷ script_stage given.kernel (lines_after_sections given.lines) ∷ []
+later_stages extra inputs =
+    memory_stage inputs ∷ claims_stage inputs.kernel extra.claims ∷ nodes_stage inputs ∷ crash_area_stage extra.profile inputs
+    ∷ script_stage inputs.kernel (lines_before_sections inputs.lines)
+    ∷ sections_stage inputs
+    ∷ script_stage inputs.kernel (lines_after_sections inputs.lines) ∷ []
 
 -- what the boot has made up to the handover (`setup_arch`, up to `mem_init`), with a profile and
 -- early claims, or the cause for which it stops
 unfoldable pub boot_with : ExtraView → InputsView → Result BootSoFar Cause
-boot_with extra given = judge_map given >>= λ made. run_each_stage (later_stages extra given) made
+boot_with extra inputs = judge_map inputs >>= λ made. run_each_stage (later_stages extra inputs) made
 
 -- what the boot has made with `bootmem`'s own profile and without early claims, or the cause for
 -- which it stops
 unfoldable pub boot : InputsView → Result BootSoFar Cause
-boot given = boot_with no_extra given
+boot inputs = boot_with no_extra inputs
 
 -- what is reported of the boot with a profile and early claims, or the cause for which it stops
 abbrev pub whole_boot_with : ExtraView → InputsView → Result BootedView Cause
-whole_boot_with extra given = boot_with extra given >>= λ made. Ok (finish_boot_by extra.profile given made)
+whole_boot_with extra inputs = boot_with extra inputs >>= λ made. Ok (finish_boot_by extra.profile inputs made)
 
 -- what is reported of the boot with `bootmem`'s own profile and without early claims, or the cause
 -- for which it stops
 abbrev pub whole_boot : InputsView → Result BootedView Cause
-whole_boot given = boot given >>= λ made. Ok (finish_boot given made)
+whole_boot inputs = boot inputs >>= λ made. Ok (finish_boot inputs made)
 
 -- whether the address lies in a run of RAM or of the kernel's own memory
 abbrev pub lies_in_memory : List (RunOf ℕ) → ℕ → Bool

@@ -24,19 +24,19 @@ use bm_base::FRAME_SIZE;
 /// command line asks for it (`add_efi_memmap`) and the EFI map has descriptors. Otherwise the
 /// claims are those of a boot without that map.
 pub fn efi_map_counts_only_if_asked()
-    ensures unasked { (given : InputsView) → given.options.add_efi ≡ false →
-        claims given ≡ claims (record given { efi = None }) }
-    ensures empty { (given : InputsView) → efi_entries given.efi ≡ [] →
-        claims given ≡ claims (record given { efi = None }) }
+    ensures unasked { (inputs : InputsView) → inputs.options.add_efi ≡ false →
+        claims inputs ≡ claims (record inputs { efi = None }) }
+    ensures empty { (inputs : InputsView) → efi_entries inputs.efi ≡ [] →
+        claims inputs ≡ claims (record inputs { efi = None }) }
 {}
 
 /// Law: the map of a boot gives each address below 2^64 the greatest type that any claim (typed
 /// range) of the e820 table gives it (`e820__update_table`). The map has at most 3,200 runs.
 pub fn map_gives_types()
-    ensures types { (given : InputsView) (made : BootSoFar) (x : ℕ) → boot given ≡ Ok made
+    ensures types { (inputs : InputsView) (made : BootSoFar) (x : ℕ) → boot inputs ≡ Ok made
         → x < 2 ^ 64 →
-        value_at made.map x ≡ kinds (claims given) x }
-    ensures room { (given : InputsView) (made : BootSoFar) → boot given ≡ Ok made
+        value_at made.map x ≡ kinds (claims inputs) x }
+    ensures room { (inputs : InputsView) (made : BootSoFar) → boot inputs ≡ Ok made
         → length made.map ≤ E820_MAX_ENTRIES }
 {}
 
@@ -44,28 +44,30 @@ pub fn map_gives_types()
 /// runs of RAM or of the kernel's own memory in the boot's map. The number of usable frames is 1 to
 /// 2^32.
 pub fn map_gives_frames()
-    ensures each { (given : InputsView) (made : BootSoFar) (frame : ℕ) → boot given ≡ Ok made →
-        FRAME_SIZE * frame + FRAME_SIZE ≤ reach given → is_usable_frame (types_in_reach given) frame
+    ensures each { (inputs : InputsView) (made : BootSoFar) (frame : ℕ) → boot inputs ≡ Ok made →
+        FRAME_SIZE * frame + FRAME_SIZE ≤ reach inputs →
+        is_usable_frame (types_in_reach inputs) frame
         ≡ each_in (bytes_of_frame frame) (lies_in_memory made.map) }
-    ensures some { (given : InputsView) (made : BootSoFar) → boot given ≡ Ok made →
-        0 < usable_frames (types_in_reach given) }
-    ensures few { (given : InputsView) (made : BootSoFar) → boot given ≡ Ok made →
-        usable_frames (types_in_reach given) ≤ 2 ^ 32 }
+    ensures some { (inputs : InputsView) (made : BootSoFar) → boot inputs ≡ Ok made →
+        0 < usable_frames (types_in_reach inputs) }
+    ensures few { (inputs : InputsView) (made : BootSoFar) → boot inputs ≡ Ok made →
+        usable_frames (types_in_reach inputs) ≤ 2 ^ 32 }
 {}
 
 /// Law: at the end of a boot a byte is memory exactly if its frame is usable. Allocations are
 /// limited to addresses below the end of the last usable frame.
 pub fn map_gives_memory()
-    ensures memory { (given : InputsView) (made : BootSoFar) (x : ℕ) → boot given ≡ Ok made →
-        is_some (memory_of made.items x) ≡ is_usable_frame (types_in_reach given) (x / FRAME_SIZE) }
-    ensures limit { (given : InputsView) (made : BootSoFar) → boot given ≡ Ok made →
-        limit_of made.items ≡ memory_end (reach given) (kinds (claims given)) }
+    ensures memory { (inputs : InputsView) (made : BootSoFar) (x : ℕ) → boot inputs ≡ Ok made →
+        is_some (memory_of made.items x)
+        ≡ is_usable_frame (types_in_reach inputs) (x / FRAME_SIZE) }
+    ensures limit { (inputs : InputsView) (made : BootSoFar) → boot inputs ≡ Ok made →
+        limit_of made.items ≡ memory_end (reach inputs) (kinds (claims inputs)) }
 {}
 
 /// Law: a boot stops with `NoRam` only if no frame is usable.
 pub fn no_ram_means_no_usable_frame()
-    ensures { (given : InputsView) → boot given ≡ Err causes.NoRam
-        → usable_frames (types_in_reach given) ≡ 0 }
+    ensures { (inputs : InputsView) → boot inputs ≡ Err causes.NoRam
+        → usable_frames (types_in_reach inputs) ≡ 0 }
 {}
 
 /// Law: each mirrored range that the EFI map gives is whole frames, at least one. A range that an
@@ -79,6 +81,6 @@ pub fn mirrors_are_whole_frames()
 /// Law: a boot with `bootmem`'s own profile and without early claims makes what `boot` makes, and
 /// reports what `boot` reports.
 pub fn boot_has_own_profile()
-    ensures made { (given : InputsView) → boot_with no_extra given ≡ boot given }
-    ensures report { (given : InputsView) → whole_boot_with no_extra given ≡ whole_boot given }
+    ensures made { (inputs : InputsView) → boot_with no_extra inputs ≡ boot inputs }
+    ensures report { (inputs : InputsView) → whole_boot_with no_extra inputs ≡ whole_boot inputs }
 {}

@@ -41,4 +41,4 @@ wanting_first = inr (refl, record { count = 0; short = omega arith; stands = ref
 -- a stage without items never ends as out of memory
 never_for_nothing : (old new : List Item) → EndsAsStage {A = Unit {0}} (items_with_growths []) refusal_for (Err refusal.Memory) old new → ⊥
 unfolding items_with_growths
-never_for_nothing old new ends = ⊎_elim (λ told. cc told.1) (λ cut. omega (arith, cut.1.short)) ends
+never_for_nothing old new ends = ⊎_elim (λ booted. cc booted.1) (λ cut. omega (arith, cut.1.short)) ends

@@ -108,20 +108,20 @@ stand-by m store heads finish_boot first second first_stands second_stands noded
 }
 
 -- the results of the boot, from what the boot made and from what the handover reads
-pub finish_boot-by : (profile : Profile) (given : InputsView) (map : List (RunOf ℕ)) (m : MemblockView) (later : LaterResults)
+pub finish_boot-by : (profile : Profile) (inputs : InputsView) (map : List (RunOf ℕ)) (m : MemblockView) (later : LaterResults)
     (ids : LiveView) (fills : List Fill)
     (items : List Item)
     (heads : Heads) (spans with_memory : List Span) (frames : Frames) (lists : ZoneListsView) (answers : List PageAnswer)
     (after : PageState)
-    → m.kernel ≡ given.kernel → items ≡ m.journal.items → heads ≡ heads_of m.kernel m.journal.items
+    → m.kernel ≡ inputs.kernel → items ≡ m.journal.items → heads ≡ heads_of m.kernel m.journal.items
     → spans ≡ spans_by_rule profile.zones m.journal.items → with_memory ≡ spans_of_memory m.journal.items
-    → frames ≡ handover_frames m.journal.items → lists ≡ zonelists_from_slit given.slit (nodes_view later.nodes).domains with_memory
-    → answers ≡ page_answers_of lists (first_page_state frames) given.page_lines
-    → after ≡ page_state_after lists (first_page_state frames) given.page_lines
+    → frames ≡ handover_frames m.journal.items → lists ≡ zonelists_from_slit inputs.slit (nodes_view later.nodes).domains with_memory
+    → answers ≡ page_answers_of lists (first_page_state frames) inputs.page_lines
+    → after ≡ page_state_after lists (first_page_state frames) inputs.page_lines
     → record {
-      width = given.width;
+      width = inputs.width;
       map = map;
-      options = given.options;
+      options = inputs.options;
       items = items;
       heads = heads;
       nodes = nodes_view later.nodes;
@@ -134,8 +134,8 @@ pub finish_boot-by : (profile : Profile) (given : InputsView) (map : List (RunOf
       lists = lists;
       page_answers = answers;
       after = after;
-    } ≡ finish_boot_by profile given (made_after_stages given map m later ids fills)
-finish_boot-by profile given map m later ids fills items heads spans with_memory frames lists answers after kernel same head_is span_is
+    } ≡ finish_boot_by profile inputs (made_after_stages inputs map m later ids fills)
+finish_boot-by profile inputs map m later ids fills items heads spans with_memory frames lists answers after kernel same head_is span_is
     memory_is frame_is list_is told_is after_is =
     cc
 

@@ -62,42 +62,42 @@ module _ {E F A : Type 0} (cause : E → Cause) (put : A → BootSoFar → BootS
   pub steps-stop : (e : F) (stop : Stop) → EndsAsStage {A = A} doing error (Err e) made.items new
       → ((why : Option E) → e ≡ error why → stop ≡ stop_of_error cause why) → stop ≢ stops.Memory
       → map_error stop_of (stage_of_steps cause put doing made) ≡ Err stop
-  steps-stop e stop ends told other = ⊎_elim
-      (λ stopped. rw stopped.1 (ap (λ (s : Stop). Err s) (sym (told (Some stopped.0) stopped.2))))
-      (λ cut. absurd (other (told None cut.0))) ends
+  steps-stop e stop ends later_answers other = ⊎_elim
+      (λ stopped. rw stopped.1 (ap (λ (s : Stop). Err s) (sym (later_answers (Some stopped.0) stopped.2))))
+      (λ cut. absurd (other (later_answers None cut.0))) ends
 
 -- What is known once `stages` have run: they end with `base`, except for memblock and for the live
 -- IDs, fills and answers of the early script.
-pub record Row (given : InputsView) (map : List (RunOf ℕ)) (stages : List Stage) (base : BootSoFar) (m : MemblockView) (ids : LiveView)
+pub record Row (inputs : InputsView) (map : List (RunOf ℕ)) (stages : List Stage) (base : BootSoFar) (m : MemblockView) (ids : LiveView)
     (answers : List Answer) : Type 0 where
   pub fills : List Fill
-  pub come : run_each_stage stages (begin_with_map map given.options) ≡ Ok (made_after_lines base m ids fills answers)
-  pub kernel : m.kernel ≡ given.kernel
+  pub come : run_each_stage stages (begin_with_map map inputs.options) ≡ Ok (made_after_lines base m ids fills answers)
+  pub kernel : m.kernel ≡ inputs.kernel
   pub holds : HasBytesOfHistory fills m
 
-pub row-first : (given : InputsView) (map : List (RunOf ℕ)) (m : MemblockView) → m.journal.items ≡ [] → m.kernel ≡ given.kernel
+pub row-first : (inputs : InputsView) (map : List (RunOf ℕ)) (m : MemblockView) → m.journal.items ≡ [] → m.kernel ≡ inputs.kernel
     → HasBytesOfHistory [] m
-    → Row given map [] (begin_with_map map given.options) m [] []
-row-first given map m none kernel holds = record {
+    → Row inputs map [] (begin_with_map map inputs.options) m [] []
+row-first inputs map m none kernel holds = record {
   fills = [];
-  come = ap (λ (items : List Item). Ok (record (begin_with_map map given.options) { items = items })) (sym none);
+  come = ap (λ (items : List Item). Ok (record (begin_with_map map inputs.options) { items = items })) (sym none);
   kernel = kernel;
   holds = holds;
 }
 
-module _ {given : InputsView} {map : List (RunOf ℕ)} {stages : List Stage} {base : BootSoFar} {m : MemblockView} {ids : LiveView}
-    {answers : List Answer} (row : Row given map stages base m ids answers) where
+module _ {inputs : InputsView} {map : List (RunOf ℕ)} {stages : List Stage} {base : BootSoFar} {m : MemblockView} {ids : LiveView}
+    {answers : List Answer} (row : Row inputs map stages base m ids answers) where
   one-more : (s : Stage) (next : BootSoFar) → s (made_after_lines base m ids row.fills answers) ≡ Ok next
-      → run_each_stage (stages ++ s ∷ []) (begin_with_map map given.options) ≡ Ok next
+      → run_each_stage (stages ++ s ∷ []) (begin_with_map map inputs.options) ≡ Ok next
   one-more s next goes =
-      run_each_stage-append stages (s ∷ []) (begin_with_map map given.options)
+      run_each_stage-append stages (s ∷ []) (begin_with_map map inputs.options)
       ∙ ap (λ (said : Result BootSoFar Cause). said >>= λ n. run_each_stage (s ∷ []) n) row.come
       ∙ ap (λ (said : Result BootSoFar Cause). said >>= λ n. Ok n) goes
 
   -- one more stage over memblock has run
   pub row-next : (s : Stage) (later : BootSoFar) (n : MemblockView)
       → ((fills : List Fill) → s (made_after_lines base m ids fills answers) ≡ Ok (made_after_lines later n ids fills answers))
-      → ContinuesMemblock m n → Row given map (stages ++ s ∷ []) later n ids answers
+      → ContinuesMemblock m n → Row inputs map (stages ++ s ∷ []) later n ids answers
   row-next s later n goes goes_on = record {
     fills = row.fills;
     come = one-more s (made_after_lines later n ids row.fills answers) (goes row.fills);
@@ -106,40 +106,41 @@ module _ {given : InputsView} {map : List (RunOf ℕ)} {stages : List Stage} {ba
   }
 
   -- lines of the early script have run
-  reached_is : (s : Script) (later : LiveView) (n : MemblockView) (told : List Answer) → MatchesScriptSoFar s later n told
-      → with_script_state (made_after_lines base m ids row.fills answers) s ≡ made_after_lines base n later s.fills told
-  reached_is s later n told reached = cc (reached.state, reached.answers_are)
+  reached_is : (s : Script) (later : LiveView) (n : MemblockView) (later_answers : List Answer) → MatchesScriptSoFar s later n later_answers
+      → with_script_state (made_after_lines base m ids row.fills answers) s ≡ made_after_lines base n later s.fills later_answers
+  reached_is s later n later_answers reached = cc (reached.state, reached.answers_are)
 
-  pub row-lines : (lines : List Line) (later : LiveView) (n : MemblockView) (told : List Answer) → n.kernel ≡ m.kernel
-      → MatchesScriptSoFar (script_after_lines (script_so_far ids m row.fills answers) lines) later n told
-      → Row given map (stages ++ script_stage given.kernel lines ∷ []) base n later told
-  row-lines lines later n told same reached =
+  pub row-lines : (lines : List Line) (later : LiveView) (n : MemblockView) (later_answers : List Answer) → n.kernel ≡ m.kernel
+      → MatchesScriptSoFar (script_after_lines (script_so_far ids m row.fills answers) lines) later n later_answers
+      → Row inputs map (stages ++ script_stage inputs.kernel lines ∷ []) base n later later_answers
+  row-lines lines later n later_answers same reached =
       let s : Script = script_after_lines (script_so_far ids m row.fills answers) lines in
       record {
         fills = s.fills;
-        come = one-more (script_stage given.kernel lines) (made_after_lines base n later s.fills told)
+        come = one-more (script_stage inputs.kernel lines) (made_after_lines base n later s.fills later_answers)
             (ap (λ (k : RangeView). script_stage k lines (made_after_lines base m ids row.fills answers)) (sym row.kernel)
-            ∙ ap (λ (made : BootSoFar). Ok made) (reached_is s later n told reached));
+            ∙ ap (λ (made : BootSoFar). Ok made) (reached_is s later n later_answers reached));
         kernel = same ∙ row.kernel;
         holds = reached.holds;
       }
 
   -- the lines of early claims have run
-  claimed_is : (s : Script) (later : LiveView) (n : MemblockView) (told : List Answer) → MatchesScriptSoFar s later n told
+  claimed_is : (s : Script) (later : LiveView) (n : MemblockView) (later_answers : List Answer) → MatchesScriptSoFar s later n later_answers
       → with_claims_state (made_after_lines base m ids row.fills answers) s
-      ≡ made_after_lines (record base { claim_answers = told }) n later s.fills answers
-  claimed_is s later n told reached = cc (reached.state, reached.answers_are)
+      ≡ made_after_lines (record base { claim_answers = later_answers }) n later s.fills answers
+  claimed_is s later n later_answers reached = cc (reached.state, reached.answers_are)
 
-  pub row-claims : (lines : List Line) (later : LiveView) (n : MemblockView) (told : List Answer) → n.kernel ≡ m.kernel
-      → MatchesScriptSoFar (script_after_lines (script_so_far ids m row.fills base.claim_answers) lines) later n told
-      → Row given map (stages ++ claims_stage given.kernel lines ∷ []) (record base { claim_answers = told }) n later answers
-  row-claims lines later n told same reached =
+  pub row-claims : (lines : List Line) (later : LiveView) (n : MemblockView) (later_answers : List Answer) → n.kernel ≡ m.kernel
+      → MatchesScriptSoFar (script_after_lines (script_so_far ids m row.fills base.claim_answers) lines) later n later_answers
+      → Row inputs map (stages ++ claims_stage inputs.kernel lines ∷ []) (record base { claim_answers = later_answers }) n later answers
+  row-claims lines later n later_answers same reached =
       let s : Script = script_after_lines (script_so_far ids m row.fills base.claim_answers) lines in
       record {
         fills = s.fills;
-        come = one-more (claims_stage given.kernel lines) (made_after_lines (record base { claim_answers = told }) n later s.fills answers)
+        come = one-more (claims_stage inputs.kernel lines)
+            (made_after_lines (record base { claim_answers = later_answers }) n later s.fills answers)
             (ap (λ (k : RangeView). claims_stage k lines (made_after_lines base m ids row.fills answers)) (sym row.kernel)
-            ∙ ap (λ (made : BootSoFar). Ok made) (claimed_is s later n told reached));
+            ∙ ap (λ (made : BootSoFar). Ok made) (claimed_is s later n later_answers reached));
         kernel = same ∙ row.kernel;
         holds = reached.holds;
       }
@@ -147,9 +148,9 @@ module _ {given : InputsView} {map : List (RunOf ℕ)} {stages : List Stage} {ba
   -- if a stage stops, the boot stops
   pub row-stops : (s : Stage) (rest : List Stage) (stop : Stop)
       → map_error stop_of (s (made_after_lines base m ids row.fills answers)) ≡ Err stop
-      → map_error stop_of (run_each_stage (stages ++ s ∷ rest) (begin_with_map map given.options)) ≡ Err stop
+      → map_error stop_of (run_each_stage (stages ++ s ∷ rest) (begin_with_map map inputs.options)) ≡ Err stop
   row-stops s rest stop stops_so =
-      ap (map_error stop_of) (run_each_stage-append stages (s ∷ rest) (begin_with_map map given.options)
+      ap (map_error stop_of) (run_each_stage-append stages (s ∷ rest) (begin_with_map map inputs.options)
       ∙ ap (λ (said : Result BootSoFar Cause). said >>= λ n. run_each_stage (s ∷ rest) n) row.come)
       ∙ stopped (s (made_after_lines base m ids row.fills answers)) (λ n. run_each_stage rest n) stop stops_so
 

@@ -61,16 +61,16 @@ accept_map reach (Err fault) = Err (stop_of_map fault)
 -- many runs, they stop the boot with `MapFull`. If the program was out of memory, this proposition
 -- says nothing.
 abbrev pub DecidesMapStages : InputsView → TableMapResult → Type 0
-DecidesMapStages given (Ok runs) = judge_map given ≡ usable_frames_stage given (begin_with_map runs.items given.options)
-DecidesMapStages given (Err (faults.MapFull runs)) = judge_map given ≡ Err (causes.MapFull runs)
-DecidesMapStages given (Err faults.Memory) = Unit {0}
+DecidesMapStages inputs (Ok runs) = judge_map inputs ≡ usable_frames_stage inputs (begin_with_map runs.items inputs.options)
+DecidesMapStages inputs (Err (faults.MapFull runs)) = judge_map inputs ≡ Err (causes.MapFull runs)
+DecidesMapStages inputs (Err faults.Memory) = Unit {0}
 
 -- memblock's table `w` (memory or reserved) lies in the bytes of `store`, at the address that
 -- `head` gives, and its records are those that the journal items `items` give
 pub record IsStoredTable (w : Which) (items : List Item) (store : List ExtentView) (head : Head) : Type 0 where
   pub table : TableView
   pub stands : IsInStore table store
-  pub told : head ≡ head_of table
+  pub head_is : head ≡ head_of table
   pub records : table.records ≡ records_of w items
 
 -- For each frame, `buddy` and the records of memblock's two tables agree whether the frame is free,
@@ -92,13 +92,13 @@ HasBytesOfHistory fills m = AreBytesFromHistory m.kernel m.journal.items fills (
 abbrev pub made_after_lines : BootSoFar → MemblockView → LiveView → List Fill → List Answer → BootSoFar
 made_after_lines made m ids fills answers = record made { items = m.journal.items; ids = ids; fills = fills; answers = answers }
 
--- The state of the boot after all stages. `given` are the inputs, `map` is the accepted map, and
+-- The state of the boot after all stages. `inputs` are the inputs, `map` is the accepted map, and
 -- `later` has the results of the stages after the map. Memblock `m` has the journal items. `ids`
 -- has the range of each ID of a script that is in use, and `fills` the scripts' writes to memory.
 abbrev pub made_after_stages : InputsView → List (RunOf ℕ) → MemblockView → LaterResults → LiveView → List Fill → BootSoFar
-made_after_stages given map m later ids fills = record {
+made_after_stages inputs map m later ids fills = record {
   map = map;
-  options = given.options;
+  options = inputs.options;
   items = m.journal.items;
   nodes = nodes_view later.nodes;
   crash = later.crash;
@@ -113,16 +113,16 @@ made_after_stages given map m later ids fills = record {
 -- memblock `m`, of the results `later`, and of some `ids` and `fills` of the scripts. The range of
 -- the kernel's image is that of the inputs. Each byte of memory has the value that results from the
 -- journal and from the scripts' writes (`fills`).
-pub record StagesEndWith (extra : ExtraView) (given : InputsView) (map : List (RunOf ℕ)) (m : MemblockView)
+pub record StagesEndWith (extra : ExtraView) (inputs : InputsView) (map : List (RunOf ℕ)) (m : MemblockView)
     (later : LaterResults) : Type 0 where
   pub ids : LiveView
   pub fills : List Fill
-  pub come : run_each_stage (later_stages extra given) (begin_with_map map given.options)
-      ≡ Ok (made_after_stages given map m later ids fills)
-  pub kernel : m.kernel ≡ given.kernel
+  pub come : run_each_stage (later_stages extra inputs) (begin_with_map map inputs.options)
+      ≡ Ok (made_after_stages inputs map m later ids fills)
+  pub kernel : m.kernel ≡ inputs.kernel
   pub holds : HasBytesOfHistory fills m
 
 -- unless `stop` is out of memory, the definition of the stages after the map ends with `stop` too
 abbrev pub StagesStopWith : ExtraView → InputsView → List (RunOf ℕ) → Stop → Type 0
-StagesStopWith extra given map stop =
-    stop ≢ stops.Memory → map_error stop_of (run_each_stage (later_stages extra given) (begin_with_map map given.options)) ≡ Err stop
+StagesStopWith extra inputs map stop =
+    stop ≢ stops.Memory → map_error stop_of (run_each_stage (later_stages extra inputs) (begin_with_map map inputs.options)) ≡ Err stop

@@ -50,7 +50,7 @@ pub fn hand_over_memory(
     requires tables { (w : Which)
         → table_in w memblock.tables ≡ table_from_items w memblock.kernel memblock.journal.items }
     requires within { IsEmptyFrom (2 ^ 64) (reserved_labels (owner_of memblock.journal.items)) }
-    ensures told { IfOk result (λ booted. (ids : LiveView) (fills : List Fill) → booted_view booted
+    ensures view { IfOk result (λ booted. (ids : LiveView) (fills : List Fill) → booted_view booted
         ≡ finish_boot_by profile (inputs_view inputs)
         (made_after_stages (inputs_view inputs) map.items memblock later ids fills)) }
     ensures map { IfOk result (λ booted. booted.map ≡ map) }

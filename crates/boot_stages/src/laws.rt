@@ -14,7 +14,7 @@ ghost use Rattle.boot_stages.specs.Boots.{DecidesMapStages, TableMapResult};
 /// otherwise stops with `NoRam` or `TooMuchRam`. If the map has too many runs, the boot stops with
 /// `MapFull` and their number. If the table runs out of memory, the law says nothing.
 pub fn table_result_decides_map_stages()
-    ensures { (given : InputsView) (answer : TableMapResult) →
-        Answers faults.Memory (λ runs. runs.items) answer (map_if_room (map_of (claims given))) →
-        DecidesMapStages given answer }
+    ensures { (inputs : InputsView) (answer : TableMapResult) →
+        Answers faults.Memory (λ runs. runs.items) answer (map_if_room (map_of (claims inputs))) →
+        DecidesMapStages inputs answer }
 {}

@@ -31,7 +31,7 @@ use Rattle.bootmem_c.proofs.NameLaws.{HasNoClaims}
 
 -- if the step fails, its reason names an input before the place `bound` in the order of reading
 abbrev FailsBefore : {A : Type 0} → ℕ → Result A InputsReason → Type 0
-FailsBefore bound (Ok given) = Unit {0}
+FailsBefore bound (Ok inputs) = Unit {0}
 FailsBefore bound (Err reasons.Usage) = ⊥
 FailsBefore bound (Err (reasons.Unread other)) = input_place other < bound
 FailsBefore bound (Err (reasons.Faulty other fault)) = input_place other < bound
@@ -43,8 +43,8 @@ EndsUnread input said = ReachesFile input_place input said → said ≡ Err (rea
 
 -- a step before the file of `input` changes nothing of that
 after : {A B : Type 0} (input : Input) (step : Result A InputsReason) (rest : A → Result B InputsReason)
-    → FailsBefore (input_place input) step → ((given : A) → EndsUnread input (rest given)) → EndsUnread input (step >>= rest)
-after input (Ok given) rest fails goes comes = goes given comes
+    → FailsBefore (input_place input) step → ((inputs : A) → EndsUnread input (rest inputs)) → EndsUnread input (step >>= rest)
+after input (Ok inputs) rest fails goes comes = goes inputs comes
 after input (Err reasons.Usage) rest fails goes comes = absurd fails
 after input (Err (reasons.Unread other)) rest fails goes comes = absurd (omega (arith, fails, comes))
 after input (Err (reasons.Faulty other fault)) rest fails goes comes = absurd (omega (arith, fails, comes))
@@ -53,13 +53,13 @@ after input (Err (reasons.Stopped why)) rest fails goes comes = absurd fails
 -- nor does a step after it
 within : {A B : Type 0} (input : Input) (step : Result A InputsReason) (rest : A → Result B InputsReason) → EndsUnread input step
     → EndsUnread input (step >>= rest)
-within input (Ok given) rest goes comes = absurd (cc (goes tt))
+within input (Ok inputs) rest goes comes = absurd (cc (goes tt))
 within {A = A} input (Err reason) rest goes comes = ap (λ (s : Result A InputsReason). s >>= rest) (goes comes)
 
 -- two steps that fail before a place fail before it together
 both_before : {A B : Type 0} (bound : ℕ) (step : Result A InputsReason) (rest : A → Result B InputsReason) → FailsBefore bound step
-    → ((given : A) → FailsBefore bound (rest given)) → FailsBefore bound (step >>= rest)
-both_before bound (Ok given) rest first second = second given
+    → ((inputs : A) → FailsBefore bound (rest inputs)) → FailsBefore bound (step >>= rest)
+both_before bound (Ok inputs) rest first second = second inputs
 both_before bound (Err reasons.Usage) rest first second = first
 both_before bound (Err (reasons.Unread other)) rest first second = first
 both_before bound (Err (reasons.Faulty other fault)) rest first second = first
@@ -67,7 +67,7 @@ both_before bound (Err (reasons.Stopped why)) rest first second = first
 
 faulty_before : {A : Type 0} (input : Input) (bound : ℕ) (answer : Result A Fault) → input_place input < bound
     → FailsBefore bound (answer_or_faulty_file input answer)
-faulty_before input bound (Ok given) below = tt
+faulty_before input bound (Ok inputs) below = tt
 faulty_before input bound (Err fault) below = below
 
 unread_before : {A : Type 0} (held : Option (List ℕ)) (input : Input) (bound : ℕ) (step : List ℕ → Result A InputsReason)
@@ -76,24 +76,25 @@ unread_before : {A : Type 0} (held : Option (List ℕ)) (input : Input) (bound :
 unread_before None input bound step below is = below
 unread_before (Some bytes) input bound step below is = is bytes
 
-file_before : (held : FileContents) (file : File) (given : InputsView) (bound : ℕ) (name : Option (List ℕ)) → input_place file.input < bound
-    → FailsBefore bound (inputs_after_optional_file held file given name)
-file_before held file given bound None below = tt
-file_before held file given bound (Some name) below =
+file_before : (held : FileContents) (file : File) (inputs : InputsView) (bound : ℕ) (name : Option (List ℕ))
+    → input_place file.input < bound
+    → FailsBefore bound (inputs_after_optional_file held file inputs name)
+file_before held file inputs bound None below = tt
+file_before held file inputs bound (Some name) below =
     unread_before (held name) file.input bound _ below
-    (λ bytes. faulty_before file.input bound (within_limit file.limit bytes >>= λ read. file.says read given) below)
+    (λ bytes. faulty_before file.input bound (within_limit file.limit bytes >>= λ read. file.says read inputs) below)
 
 -- each file of the list comes before the place
 abbrev AreBefore : ℕ → List File → Type 0
 AreBefore bound [] = Unit {0}
 AreBefore bound (file ∷ files) = (input_place file.input < bound) × AreBefore bound files
 
-files_before : (held : FileContents) (named : FileNames) (bound : ℕ) (files : List File) (given : InputsView) → AreBefore bound files
-    → FailsBefore bound (inputs_after_files held named files given)
-files_before held named bound [] given all = tt
-files_before held named bound (file ∷ files) given all =
-    both_before bound (inputs_after_file held named file given) (inputs_after_files held named files)
-    (file_before held file given bound (named file.input) all.0) (λ given. files_before held named bound files given all.1)
+files_before : (held : FileContents) (named : FileNames) (bound : ℕ) (files : List File) (inputs : InputsView) → AreBefore bound files
+    → FailsBefore bound (inputs_after_files held named files inputs)
+files_before held named bound [] inputs all = tt
+files_before held named bound (file ∷ files) inputs all =
+    both_before bound (inputs_after_file held named file inputs) (inputs_after_files held named files)
+    (file_before held file inputs bound (named file.input) all.0) (λ inputs. files_before held named bound files inputs all.1)
 
 claims_before : (held : FileContents) (bound : ℕ) (name : Option (List ℕ)) → 5 < bound
     → FailsBefore bound (claims_of_optional_file held name)
@@ -109,26 +110,26 @@ Has input [] = ⊥
 Has input (file ∷ files) = (file.input ≡ input) ⊎ ((input_place file.input < input_place input) × Has input files)
 
 unread_at : (held : FileContents) (named : FileNames) (input : Input) (name : List ℕ) → named input ≡ Some name → held name ≡ None
-    → (files : List File) (given : InputsView) → Has input files → EndsUnread input (inputs_after_files held named files given)
-unread_at held named input name is none [] given has comes = absurd has
-unread_at held named input name is none (file ∷ files) given (inl same) comes =
+    → (files : List File) (inputs : InputsView) → Has input files → EndsUnread input (inputs_after_files held named files inputs)
+unread_at held named input name is none [] inputs has comes = absurd has
+unread_at held named input name is none (file ∷ files) inputs (inl same) comes =
     let own : named file.input ≡ Some name = ap named same ∙ is in
-    let unread : inputs_after_named_file held file given name ≡ Err (reasons.Unread file.input) = rw none refl in
-    let step : inputs_after_file held named file given ≡ Err (reasons.Unread file.input) =
-    ap (inputs_after_optional_file held file given) own ∙ unread in
+    let unread : inputs_after_named_file held file inputs name ≡ Err (reasons.Unread file.input) = rw none refl in
+    let step : inputs_after_file held named file inputs ≡ Err (reasons.Unread file.input) =
+    ap (inputs_after_optional_file held file inputs) own ∙ unread in
     ap (λ (s : Result InputsView InputsReason). s >>= inputs_after_files held named files) step
     ∙ ap (λ (i : Input). Err (reasons.Unread i)) same
-unread_at held named input name is none (file ∷ files) given (inr more) comes =
-    after input (inputs_after_file held named file given) (inputs_after_files held named files)
-    (file_before held file given (input_place input) (named file.input) more.0)
-    (λ given. unread_at held named input name is none files given more.1) comes
+unread_at held named input name is none (file ∷ files) inputs (inr more) comes =
+    after input (inputs_after_file held named file inputs) (inputs_after_files held named files)
+    (file_before held file inputs (input_place input) (named file.input) more.0)
+    (λ inputs. unread_at held named input name is none files inputs more.1) comes
 
 -- if no file has the name of an input, and the outcome reaches this input, the outcome is that its
 -- file can't be read; `named` gives the names of the files
 abbrev pub NamesUnread : {W : Type 0} → (W → FileNames) → FileContents → Option W → Result (List ℕ) InputsReason → Type 0
 NamesUnread named held None said = Unit {0}
-NamesUnread named held (Some wanted) said =
-    (input : Input) (name : List ℕ) → named wanted input ≡ Some name → held name ≡ None → EndsUnread input said
+NamesUnread named held (Some args) said =
+    (input : Input) (name : List ℕ) → named args input ≡ Some name → held name ≡ None → EndsUnread input said
 
 -- each input that a command line of `bootmem` names is in the list
 has : (named : FileNames) (name : List ℕ) → named inputs.Claims ≡ None → (input : Input) → named input ≡ Some name → Has input input_files
@@ -143,17 +144,17 @@ has named name own inputs.Slit is = grind arith
 has named name own inputs.Efi is = grind arith
 
 pub bootmem_names_unread : (held : FileContents) (accepted : Option BootmemArgsView) → HasNoClaims accepted
-    → NamesUnread (λ wanted. wanted.named) held accepted (bootmem_outcome accepted held)
+    → NamesUnread (λ args. args.named) held accepted (bootmem_outcome accepted held)
 bootmem_names_unread held None own = tt
-bootmem_names_unread held (Some wanted) own = λ input name is none.
-    within input (read_boot_inputs held wanted) (reports_on_boot wanted.reports)
-    (within input (inputs_of held wanted.named wanted.begun) (λ given. Ok (with_made_table wanted.made given))
-    (unread_at held wanted.named input name is none input_files wanted.begun (has wanted.named name own input is)))
+bootmem_names_unread held (Some args) own = λ input name is none.
+    within input (read_boot_inputs held args) (reports_on_boot args.reports)
+    (within input (inputs_of held args.named args.begun) (λ inputs. Ok (with_made_table args.made inputs))
+    (unread_at held args.named input name is none input_files args.begun (has args.named name own input is)))
 
 -- the early claims are read after some files and before the others
 module _ (held : FileContents) (named : FileNames) (begun : InputsView) (name : List ℕ) (none : held name ≡ None) where
   rest_of_claims : InputsView → List Line → Result InputsWithClaims InputsReason
-  rest_of_claims early lines = inputs_after_files held named files_after_claims early >>= λ given. Ok (with_claims given lines)
+  rest_of_claims early lines = inputs_after_files held named files_after_claims early >>= λ read. Ok (with_claims read lines)
 
   rest_of_files : InputsView → Result InputsWithClaims InputsReason
   rest_of_files early = claims_of_file held named >>= rest_of_claims early
@@ -181,7 +182,7 @@ module _ (held : FileContents) (named : FileNames) (begun : InputsView) (name : 
       (files_before held named (input_place input) files_before_claims begun first)
       (λ early. after input (claims_of_file held named) (rest_of_claims early)
       (claims_before held (input_place input) (named inputs.Claims) last)
-      (λ lines. within input (inputs_after_files held named files_after_claims early) (λ given. Ok (with_claims given lines))
+      (λ lines. within input (inputs_after_files held named files_after_claims early) (λ inputs. Ok (with_claims inputs lines))
       (unread_at held named input name is none files_after_claims early has)))
 
   each_file : (input : Input) → named input ≡ Some name → EndsUnread input (inputs_with_claims_of held named begun)
@@ -198,10 +199,10 @@ module _ (held : FileContents) (named : FileNames) (begun : InputsView) (name : 
 pub bootmem61_names_unread : (held : FileContents) (accepted : Option ProgramArgsView)
     → NamesUnread named61 held accepted (bootmem61_outcome accepted held)
 bootmem61_names_unread held None = tt
-bootmem61_names_unread held (Some wanted) = λ input name is none.
-    within input (read_boot_inputs61 held wanted) (reports_on_boot61 (reports_of_list61 wanted.list))
-    (within input (inputs_with_claims_of held (named61 wanted) wanted.begun) (λ given. Ok (with_made_table61 wanted.made given))
-    (each_file held (named61 wanted) wanted.begun name none input is))
+bootmem61_names_unread held (Some args) = λ input name is none.
+    within input (read_boot_inputs61 held args) (reports_on_boot61 (reports_of_list61 args.list))
+    (within input (inputs_with_claims_of held (named61 args) args.begun) (λ read. Ok (with_made_table61 args.made read))
+    (each_file held (named61 args) args.begun name none input is))
 
 -- `named` gives the names of a program's files, and `said` is its outcome
 module _ {W : Type 0} (named : W → FileNames) (old new : LentFilesView) (said : Result (List ℕ) InputsReason) where
@@ -214,8 +215,8 @@ module _ {W : Type 0} (named : W → FileNames) (old new : LentFilesView) (said 
   unread_is_said : (accepted : Option W) (input : Input) → NamesUnread named (file_bytes old.files) accepted said
       → InputFaultsRose (reports_program named) (faults_at old) (faults_at new) accepted input → EndsUnread input said
   unread_is_said None input names rose comes = absurd rose
-  unread_is_said (Some wanted) input names rose comes =
-      let found = risen_file_is_not_lent (named wanted input) rose in
+  unread_is_said (Some args) input names rose comes =
+      let found = risen_file_is_not_lent (named args input) rose in
       names input found.0 found.1 found.2 comes
 
   -- with lent files, the error is that of the outcome

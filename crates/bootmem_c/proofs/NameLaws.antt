@@ -13,7 +13,7 @@ use Rattle.program_args.specs.Mirrors.{mirrors_of_value}
 -- an accepted command line names no file of early claims
 abbrev pub HasNoClaims : Option BootmemArgsView → Type 0
 HasNoClaims None = Unit {0}
-HasNoClaims (Some wanted) = wanted.named inputs.Claims ≡ None
+HasNoClaims (Some args) = args.named inputs.Claims ≡ None
 
 no_claims_after_steps : (make : Option ℕ → RangeView → List ℕ → List RangeView → BootmemArgsView) (source : Option (Unit {0}))
     (made : Option (Option ℕ)) (kernel : Option RangeView) (list : Option (List ℕ)) (mirrors : Option (List RangeView))

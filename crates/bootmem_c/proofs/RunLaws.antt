@@ -83,8 +83,8 @@ module _ {W : Type 0} (name : List ℕ) (named : W → FileNames) (old new : Len
       → (status ≡ 0 → IsOkAnd said P) → (status ≢ 0 → IsFailure status Q) → (status ≡ outcome_status said) ⊎ (status ≡ 7)
   ran_status P Q zero unwritten written line = inl (sym (text_is_zero said P (written refl)))
   ran_status P Q (suc n) unwritten written line =
-      let told = line (λ is. omega (arith, is)) in
-      rw told.1 (status_by told.0 (λ four. no_rise (unwritten (told.1 ∙ four))) told.3 told.4)
+      let booted = line (λ is. omega (arith, is)) in
+      rw booted.1 (status_by booted.0 (λ four. no_rise (unwritten (booted.1 ∙ four))) booted.3 booted.4)
 
   line_of : (reason : InputsReason) → said ≡ Err reason
       → program_failure_line name named accepted (failures.NoResult (errors.Reason reason)) ≡ program_outcome_line name named accepted said
@@ -95,21 +95,21 @@ module _ {W : Type 0} (name : List ℕ) (named : W → FileNames) (old new : Len
       → PutsLine ghosts l0 l1 (program_failure_line name named accepted failure)
       → FailureHasCause (reports_program named) (faults_at old) (faults_at new) accepted failure
       → FitsFailure (reports_program named) failure said → l1.text ≡ program_outcome_line name named accepted said
-  line_ends (failures.NoResult (errors.Reason reason)) l0 l1 written other empty not_short short told cause fits =
+  line_ends (failures.NoResult (errors.Reason reason)) l0 l1 written other empty not_short short booted cause fits =
       appended_text_is_line l0 l1 (program_failure_line name named accepted (failures.NoResult (errors.Reason reason))) short empty
-      not_short told.whole
+      not_short booted.whole
       ∙ line_of reason (fails_as named old new said accepted (errors.Reason reason) names cause fits)
-  line_ends (failures.NoResult errors.Memory) l0 l1 written other empty not_short short told cause fits = absurd (other refl)
-  line_ends (failures.Output put.Failed) l0 l1 written other empty not_short short told cause fits = absurd (written refl)
-  line_ends (failures.Output put.Memory) l0 l1 written other empty not_short short told cause fits = absurd (other refl)
+  line_ends (failures.NoResult errors.Memory) l0 l1 written other empty not_short short booted cause fits = absurd (other refl)
+  line_ends (failures.Output put.Failed) l0 l1 written other empty not_short short booted cause fits = absurd (written refl)
+  line_ends (failures.Output put.Memory) l0 l1 written other empty not_short short booted cause fits = absurd (other refl)
 
   pub ran_line : (l0 l1 : TextSinkView) (status : ℕ) → (status ≡ 4 → Rose 0 0) → l0.text ≡ [] → l0.is_short ≡ false
       → (status ≢ 0 → IsFailure status (λ failure. PutsLine ghosts l0 l1 (program_failure_line name named accepted failure)))
       → status ≢ 0 → status ≢ 7 → l1.is_short ≡ false → l1.text ≡ program_outcome_line name named accepted said
   ran_line l0 l1 status unwritten empty not_short line some other short =
-      let told = line some in
-      line_ends told.0 l0 l1 (λ four. no_rise (unwritten (told.1 ∙ four))) (λ seven. other (told.1 ∙ seven)) empty not_short short
-      told.2 told.3 told.4
+      let booted = line some in
+      line_ends booted.0 l0 l1 (λ four. no_rise (unwritten (booted.1 ∙ four))) (λ seven. other (booted.1 ∙ seven)) empty not_short short
+      booted.2 booted.3 booted.4
 
 -- a text that was appended to the empty text is the whole text
 pub appended_to_nothing : (said : Result (List ℕ) InputsReason) (old new : List ℕ) → old ≡ []

@@ -17,44 +17,44 @@ use Rattle.bootmem_c.specs.Call.{are_utf8, read_args61_if, read_args_if}
 use Rattle.bootmem_c.specs.Lent.{lent_files, lent_words}
 use Rattle.bootmem_c.specs.Profiles.{profile_of_number}
 
--- `told` has the results of the one boot that the accepted command line and the files' bytes
+-- `booted` has the results of the one boot that the accepted command line and the files' bytes
 -- determine. In this boot each usable frame is touched by a claim with a recorded owner, or is in
 -- exactly one free block (`each`). No other frame is in a block (`others`). Each block is aligned,
 -- free, in one node and in one zone (`whole`), and as large as possible (`maximal`).
-pub record IsBoot (accepted : Option BootmemArgsView) (held : FileContents) (told : BootedView) : Type 0 where
-  pub wanted : BootmemArgsView
-  pub given : InputsView
-  pub words : accepted ≡ Some wanted
-  pub inputs : read_boot_inputs held wanted ≡ Ok given
-  pub boots : whole_boot given ≡ Ok told
-  pub each : AllTouchedOrInOneBlock given told
-  pub others : NoOtherInABlock given told
-  pub whole : BlocksAreWhole given told
-  pub maximal : BlocksAreMaximal given told
+pub record IsBoot (accepted : Option BootmemArgsView) (held : FileContents) (booted : BootedView) : Type 0 where
+  pub args : BootmemArgsView
+  pub inputs : InputsView
+  pub args_read : accepted ≡ Some args
+  pub inputs_read : read_boot_inputs held args ≡ Ok inputs
+  pub boots : whole_boot inputs ≡ Ok booted
+  pub each : AllTouchedOrInOneBlock inputs booted
+  pub others : NoOtherInABlock inputs booted
+  pub whole : BlocksAreWhole inputs booted
+  pub maximal : BlocksAreMaximal inputs booted
 
 -- The same for the boot of `bootmem61`, which has the profile of Linux 6.1 and the early claims of
 -- the files.
-pub record IsBoot61 (accepted : Option ProgramArgsView) (held : FileContents) (told : BootedView) : Type 0 where
-  pub wanted : ProgramArgsView
-  pub given : InputsWithClaims
-  pub words : accepted ≡ Some wanted
-  pub inputs : read_boot_inputs61 held wanted ≡ Ok given
-  pub boots : whole_boot_with (linux_extra given.claims) given.inputs ≡ Ok told
-  pub each : AllTouchedOrInOneBlock given.inputs told
-  pub others : NoOtherInABlock given.inputs told
-  pub whole : BlocksAreWhole given.inputs told
-  pub maximal : BlocksAreMaximal given.inputs told
+pub record IsBoot61 (accepted : Option ProgramArgsView) (held : FileContents) (booted : BootedView) : Type 0 where
+  pub args : ProgramArgsView
+  pub read : InputsWithClaims
+  pub args_read : accepted ≡ Some args
+  pub inputs_read : read_boot_inputs61 held args ≡ Ok read
+  pub boots : whole_boot_with (linux_extra read.claims) read.inputs ≡ Ok booted
+  pub each : AllTouchedOrInOneBlock read.inputs booted
+  pub others : NoOtherInABlock read.inputs booted
+  pub whole : BlocksAreWhole read.inputs booted
+  pub maximal : BlocksAreMaximal read.inputs booted
 
--- `told` has the results of the boot by a profile; `utf8` says whether each word is UTF-8
+-- `booted` has the results of the boot by a profile; `utf8` says whether each word is UTF-8
 abbrev pub IsBootBy : Option BootProfile → Bool → List (List ℕ) → FileContents → BootedView → Type 0
-IsBootBy None utf8 words held told = ⊥
-IsBootBy (Some profiles.Own) utf8 words held told = IsBoot (read_args_if utf8 words) held told
-IsBootBy (Some profiles.Linux61) utf8 words held told = IsBoot61 (read_args61_if utf8 words) held told
+IsBootBy None utf8 words held booted = ⊥
+IsBootBy (Some profiles.Own) utf8 words held booted = IsBoot (read_args_if utf8 words) held booted
+IsBootBy (Some profiles.Linux61) utf8 words held booted = IsBoot61 (read_args61_if utf8 words) held booted
 
--- `told` has the results of the boot by the profile of this number
+-- `booted` has the results of the boot by the profile of this number
 abbrev pub IsBootAs : ℕ → List Bytes → List File → BootedView → Type 0
-IsBootAs number words files told =
-    IsBootBy (profile_of_number number) (are_utf8 (lent_words words)) (lent_words words) (file_bytes (lent_files files)) told
+IsBootAs number words files booted =
+    IsBootBy (profile_of_number number) (are_utf8 (lent_words words)) (lent_words words) (file_bytes (lent_files files)) booted
 
 -- if the error is a reason, the outcome `said` is this reason; out of memory may happen with any
 -- outcome

@@ -49,7 +49,7 @@ program_outcome_line program named accepted (Err reason) =
 -- the error line of an outcome of `bootmem`: the line for its reason, or the empty text if there is no
 -- reason
 abbrev pub outcome_line : Option BootmemArgsView → Result (List ℕ) InputsReason → List ℕ
-outcome_line read_args said = program_outcome_line bootmem_name (λ wanted. wanted.named) read_args said
+outcome_line read_args said = program_outcome_line bootmem_name (λ args. args.named) read_args said
 
 -- the error line of an outcome of `bootmem61`
 abbrev pub outcome61_line : Option ProgramArgsView → Result (List ℕ) InputsReason → List ℕ

@@ -25,10 +25,10 @@ use Rattle.bootmem_c.specs.declared.values.MemoryRange.{MemoryRange}
 use Rattle.bootmem_c.specs.declared.values.ZoneSpan.{ZoneSpan}
 
 -- How values are copied to a buffer of the caller, `old` before and `new` after: the buffer begins
--- with the first of the values, as many as fit, and its rest is unchanged. `told` is the number of
+-- with the first of the values, as many as fit, and its rest is unchanged. `booted` is the number of
 -- all values.
-pub record CopiesValues {T : Type 0} (values old new : List T) (told : ℕ) : Type 0 where
-  pub count : told ≡ length values
+pub record CopiesValues {T : Type 0} (values old new : List T) (number : ℕ) : Type 0 where
+  pub count : number ≡ length values
   pub front : new ≡ take (length old) values ++ drop (length values) old
 
 -- the value of a run of the map: its range in bytes and its type
@@ -37,7 +37,7 @@ run_value run = record { base = run.base; size = run.size; kind = run.value }
 
 -- the runs of the map that the boot made
 abbrev pub map_values : BootedView → List MapRun
-map_values told = map run_value told.map
+map_values booted = map run_value booted.map
 
 -- the range of the crash area or of its low part; base and size are 0 if it isn't reserved
 abbrev pub crash_part_value : Option RangeView → RangeView
@@ -84,7 +84,7 @@ block_value b = record { first = b.first; order = b.order; node = b.node; zone =
 
 -- the free blocks of the boot
 abbrev pub block_values : BootedView → List FreeBlock
-block_values told = map block_value (booted_blocks told)
+block_values booted = map block_value (booted_blocks booted)
 
 -- the value of the range of frames that a node spans in a zone: the first frame, the frame after
 -- the last one, the number of frames in the range that are memory of the node, and the node and
@@ -94,7 +94,7 @@ span_value s = record { start = s.start; end = s.end; present = s.present; node 
 
 -- the ranges of frames that the boot's nodes span in zones
 abbrev pub zone_values : BootedView → List ZoneSpan
-zone_values told = map span_value told.spans
+zone_values booted = map span_value booted.spans
 
 -- the value of a node with its proximity domain; without a domain, `domain` and `has_domain` are 0
 abbrev pub domain_value : ℕ → Option ℕ → MemoryNode
@@ -108,7 +108,7 @@ node_value domains node = domain_value node (slice_get domains node)
 
 -- the nodes of the boot that have memory
 abbrev pub node_values : BootedView → List MemoryNode
-node_values told = map (node_value told.nodes.domains) told.nodes.with_memory
+node_values booted = map (node_value booted.nodes.domains) booted.nodes.with_memory
 
 -- the value of a record of memory: its range, flags and node (`struct memblock_region`)
 abbrev pub region_value : Region → MemoryRange
@@ -126,4 +126,4 @@ record_value r = region_value (region_of r)
 
 -- the values of the records of memblock's memory table, as the boot's journal defines them
 abbrev pub memory_values : BootedView → List MemoryRange
-memory_values told = map record_value (records_of which.Memory told.items)
+memory_values booted = map record_value (records_of which.Memory booted.items)

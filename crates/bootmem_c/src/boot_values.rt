@@ -43,9 +43,9 @@ pub extern "C" fn bootmem_map(
     out: &mut MapRuns<'_>,
 ) -> u8
     ensures status { (result ≡ outcome_status (outcome_of words.now files.now)) ⊎ (result ≡ 7) }
-    ensures runs { result ≡ 0 → (told : BootedView)
-        × IsBoot (read_lent_args (lent_words words.now)) (file_bytes (lent_files files.now)) told
-        × CopiesValues (map_values told) out.old.room.now out.new.room.now out.new.count }
+    ensures runs { result ≡ 0 → (booted : BootedView)
+        × IsBoot (read_lent_args (lent_words words.now)) (file_bytes (lent_files files.now)) booted
+        × CopiesValues (map_values booted) out.old.room.now out.new.room.now out.new.count }
     ensures none { result ≢ 0 → CopiesValues [] out.old.room.now out.new.room.now out.new.count }
 {
     match boot_for_map(alloc, words, files) {
@@ -73,9 +73,9 @@ pub extern "C" fn bootmem_crash(
     out: &mut CrashArea,
 ) -> u8
     ensures status { (result ≡ outcome_status (outcome_of words.now files.now)) ⊎ (result ≡ 7) }
-    ensures area { result ≡ 0 → (told : BootedView)
-        × IsBoot (read_lent_args (lent_words words.now)) (file_bytes (lent_files files.now)) told
-        × (out.new ≡ crash_outcome_value told.crash) }
+    ensures area { result ≡ 0 → (booted : BootedView)
+        × IsBoot (read_lent_args (lent_words words.now)) (file_bytes (lent_files files.now)) booted
+        × (out.new ≡ crash_outcome_value booted.crash) }
     ensures none { result ≢ 0 → out.new ≡ crash_parts_value 0 None None }
 {
     bootmem_crash_as(alloc, OWN, words, files, out)
@@ -94,9 +94,9 @@ pub extern "C" fn bootmem_blocks(
     out: &mut FreeBlocks<'_>,
 ) -> u8
     ensures status { (result ≡ outcome_status (outcome_of words.now files.now)) ⊎ (result ≡ 7) }
-    ensures blocks { result ≡ 0 → (told : BootedView)
-        × IsBoot (read_lent_args (lent_words words.now)) (file_bytes (lent_files files.now)) told
-        × CopiesValues (block_values told) out.old.room.now out.new.room.now out.new.count }
+    ensures blocks { result ≡ 0 → (booted : BootedView)
+        × IsBoot (read_lent_args (lent_words words.now)) (file_bytes (lent_files files.now)) booted
+        × CopiesValues (block_values booted) out.old.room.now out.new.room.now out.new.count }
     ensures none { result ≢ 0 → CopiesValues [] out.old.room.now out.new.room.now out.new.count }
 {
     bootmem_blocks_as(alloc, OWN, words, files, out)
@@ -115,9 +115,9 @@ pub extern "C" fn bootmem_zones(
     out: &mut ZoneSpans<'_>,
 ) -> u8
     ensures status { (result ≡ outcome_status (outcome_of words.now files.now)) ⊎ (result ≡ 7) }
-    ensures zones { result ≡ 0 → (told : BootedView)
-        × IsBoot (read_lent_args (lent_words words.now)) (file_bytes (lent_files files.now)) told
-        × CopiesValues (zone_values told) out.old.room.now out.new.room.now out.new.count }
+    ensures zones { result ≡ 0 → (booted : BootedView)
+        × IsBoot (read_lent_args (lent_words words.now)) (file_bytes (lent_files files.now)) booted
+        × CopiesValues (zone_values booted) out.old.room.now out.new.room.now out.new.count }
     ensures none { result ≢ 0 → CopiesValues [] out.old.room.now out.new.room.now out.new.count }
 {
     bootmem_zones_as(alloc, OWN, words, files, out)
@@ -136,9 +136,9 @@ pub extern "C" fn bootmem_memory(
     out: &mut MemoryRanges<'_>,
 ) -> u8
     ensures status { (result ≡ outcome_status (outcome_of words.now files.now)) ⊎ (result ≡ 7) }
-    ensures memory { result ≡ 0 → (told : BootedView)
-        × IsBoot (read_lent_args (lent_words words.now)) (file_bytes (lent_files files.now)) told
-        × CopiesValues (memory_values told) out.old.room.now out.new.room.now out.new.count }
+    ensures memory { result ≡ 0 → (booted : BootedView)
+        × IsBoot (read_lent_args (lent_words words.now)) (file_bytes (lent_files files.now)) booted
+        × CopiesValues (memory_values booted) out.old.room.now out.new.room.now out.new.count }
     ensures none { result ≢ 0 → CopiesValues [] out.old.room.now out.new.room.now out.new.count }
 {
     bootmem_memory_as(alloc, OWN, words, files, out)
@@ -156,9 +156,9 @@ pub extern "C" fn bootmem_nodes(
     out: &mut MemoryNodes<'_>,
 ) -> u8
     ensures status { (result ≡ outcome_status (outcome_of words.now files.now)) ⊎ (result ≡ 7) }
-    ensures nodes { result ≡ 0 → (told : BootedView)
-        × IsBoot (read_lent_args (lent_words words.now)) (file_bytes (lent_files files.now)) told
-        × CopiesValues (node_values told) out.old.room.now out.new.room.now out.new.count }
+    ensures nodes { result ≡ 0 → (booted : BootedView)
+        × IsBoot (read_lent_args (lent_words words.now)) (file_bytes (lent_files files.now)) booted
+        × CopiesValues (node_values booted) out.old.room.now out.new.room.now out.new.count }
     ensures none { result ≢ 0 → CopiesValues [] out.old.room.now out.new.room.now out.new.count }
 {
     bootmem_nodes_as(alloc, OWN, words, files, out)
@@ -175,9 +175,9 @@ fn boot_for_map(
     words: &[Bytes<'_>],
     files: &[File<'_>],
 ) -> Result<Vec<MapRun>, NoReport>
-    ensures runs { IfOk result (λ runs. (told : BootedView)
-        × IsBoot (read_lent_args (lent_words words.now)) (file_bytes (lent_files files.now)) told
-        × (runs.items ≡ map_values told)) }
+    ensures runs { IfOk result (λ runs. (booted : BootedView)
+        × IsBoot (read_lent_args (lent_words words.now)) (file_bytes (lent_files files.now)) booted
+        × (runs.items ≡ map_values booted)) }
     ensures fails { IfErr result (λ failure. HasOutcomeReason failure (outcome_of words.now
         files.now)) }
 {

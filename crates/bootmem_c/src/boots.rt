@@ -31,7 +31,8 @@ use std::alloc::Global;
 ///
 /// # Errors
 ///
-/// - The reason of the outcome: there is no such profile, the words aren't UTF-8 or aren't accepted,
+/// - The reason of the outcome: there is no such profile, the words aren't UTF-8 or aren't
+/// accepted,
 ///   no file that is passed has the name, a file has a fault, or the boot stops.
 /// - `Memory` if this program is out of memory; never if there is no such profile.
 pub fn boot_lent_files(
@@ -82,8 +83,8 @@ fn boot_strings(
     }
 }
 
-/// Boots as `bootmem` does with these words, which are UTF-8, and these files. Returns the results of
-/// the boot. Errors are those of [`boot_lent_files`].
+/// Boots as `bootmem` does with these words, which are UTF-8, and these files. Returns the results
+/// of the boot. Errors are those of [`boot_lent_files`].
 fn boot_with_strings(
     alloc: Global,
     words: &[String],
@@ -99,7 +100,7 @@ fn boot_with_strings(
         (file_bytes (lent_files files.now)))) }
 {
     match read_args(alloc, words) {
-        Ok(wanted) => boot_with_args(alloc, &wanted, files),
+        Ok(args) => boot_with_args(alloc, &args, files),
         Err(ArgsError::Usage) => Err(NoReport::Reason(InputsReason::Usage)),
         Err(ArgsError::Memory) => Err(NoReport::Memory),
     }
@@ -115,19 +116,19 @@ fn boot_with_strings(
 /// - `Memory` if this program is out of memory.
 fn boot_with_args(
     alloc: Global,
-    wanted: &BootmemArgs<'_>,
+    args: &BootmemArgs<'_>,
     files: &[File<'_>],
 ) -> Result<Booted, NoReport>
     ensures boots { IfOk result (λ booted.
-        IsBoot (Some (bootmem_args_view wanted.now)) (file_bytes (lent_files files.now))
+        IsBoot (Some (bootmem_args_view args.now)) (file_bytes (lent_files files.now))
         (booted_view booted)) }
     ensures memory { IfOk result (λ booted.
         IsStoredTable which.Memory booted.journal.items booted.store booted.heads.memory) }
     ensures fails { IfErr result (λ failure.
-        HasOutcomeReason failure (bootmem_outcome (Some (bootmem_args_view wanted.now))
+        HasOutcomeReason failure (bootmem_outcome (Some (bootmem_args_view args.now))
         (file_bytes (lent_files files.now)))) }
 {
-    let inputs = read_boot_inputs(alloc, wanted, &mut LentFiles::new(files))?;
+    let inputs = read_boot_inputs(alloc, args, &mut LentFiles::new(files))?;
     match boot(alloc, inputs) {
         Ok(booted) => Ok(booted),
         Err(stop) => Err(reason_by_stop(stop)),

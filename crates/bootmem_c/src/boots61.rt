@@ -19,8 +19,8 @@ use program_args::{ArgsError, BootmemArgs, NamesWithClaims, read_args61};
 use program_run::{InputsReason, NoReport, read_boot_inputs61, reason_by_stop};
 use std::alloc::Global;
 
-/// Boots as `bootmem61` does with these words, which are UTF-8, and these files. Returns the results
-/// of the boot.
+/// Boots as `bootmem61` does with these words, which are UTF-8, and these files. Returns the
+/// results of the boot.
 ///
 /// # Errors
 ///
@@ -40,7 +40,7 @@ pub fn boot_with_strings61(
         (file_bytes (lent_files files.now)))) }
 {
     match read_args61(alloc, words) {
-        Ok(wanted) => boot_with_args61(alloc, &wanted, files),
+        Ok(args) => boot_with_args61(alloc, &args, files),
         Err(ArgsError::Usage) => Err(NoReport::Reason(InputsReason::Usage)),
         Err(ArgsError::Memory) => Err(NoReport::Memory),
     }
@@ -51,19 +51,19 @@ pub fn boot_with_strings61(
 /// those of [`boot_with_strings61`].
 fn boot_with_args61(
     alloc: Global,
-    wanted: &BootmemArgs<'_>,
+    args: &BootmemArgs<'_>,
     files: &[File<'_>],
 ) -> Result<Booted, NoReport>
     ensures boots { IfOk result (λ booted.
-        IsBoot61 (Some (program_args_view wanted.now)) (file_bytes (lent_files files.now))
+        IsBoot61 (Some (program_args_view args.now)) (file_bytes (lent_files files.now))
         (booted_view booted)) }
     ensures memory { IfOk result (λ booted.
         IsStoredTable which.Memory booted.journal.items booted.store booted.heads.memory) }
     ensures fails { IfErr result (λ failure.
-        HasOutcomeReason failure (bootmem61_outcome (Some (program_args_view wanted.now))
+        HasOutcomeReason failure (bootmem61_outcome (Some (program_args_view args.now))
         (file_bytes (lent_files files.now)))) }
 {
-    let names = NamesWithClaims { wanted };
+    let names = NamesWithClaims { args };
     let (inputs, claims) = read_boot_inputs61(alloc, &names, &mut LentFiles::new(files))?;
     let extra = Extra {
         profile: Profile::linux_6_1(),

@@ -31,6 +31,6 @@ pub fn profile_of_number(number: u32) -> Option<BootProfile>
 /// Law: the map of a boot depends on neither the profile nor the early claims. It is the map of the
 /// entries and edits that the inputs give. So `bootmem_map` needs no profile.
 pub fn map_is_the_same_by_each_profile()
-    ensures { (extra : ExtraView) (given : InputsView) (told : BootedView)
-        → whole_boot_with extra given ≡ Ok told → told.map ≡ map_of (claims given) }
+    ensures { (extra : ExtraView) (inputs : InputsView) (booted : BootedView)
+        → whole_boot_with extra inputs ≡ Ok booted → booted.map ≡ map_of (claims inputs) }
 {}

@@ -38,9 +38,9 @@ pub extern "C" fn bootmem_crash_as(
 ) -> u8
     ensures status { (result ≡ outcome_status (outcome_as profile words.now files.now)) ⊎ (result
         ≡ 7) }
-    ensures area { result ≡ 0 → (told : BootedView)
-        × IsBootAs profile words.now files.now told
-        × (out.new ≡ crash_outcome_value told.crash) }
+    ensures area { result ≡ 0 → (booted : BootedView)
+        × IsBootAs profile words.now files.now booted
+        × (out.new ≡ crash_outcome_value booted.crash) }
     ensures none { result ≢ 0 → out.new ≡ crash_parts_value 0 None None }
     ensures unknown { IsNone (profile_of_number profile) → result ≡ 2 }
 {
@@ -71,9 +71,9 @@ pub extern "C" fn bootmem_memory_as(
 ) -> u8
     ensures status { (result ≡ outcome_status (outcome_as profile words.now files.now)) ⊎ (result
         ≡ 7) }
-    ensures memory { result ≡ 0 → (told : BootedView)
-        × IsBootAs profile words.now files.now told
-        × CopiesValues (memory_values told) out.old.room.now out.new.room.now out.new.count }
+    ensures memory { result ≡ 0 → (booted : BootedView)
+        × IsBootAs profile words.now files.now booted
+        × CopiesValues (memory_values booted) out.old.room.now out.new.room.now out.new.count }
     ensures none { result ≢ 0 → CopiesValues [] out.old.room.now out.new.room.now out.new.count }
     ensures unknown { IsNone (profile_of_number profile) → result ≡ 2 }
 {
@@ -104,9 +104,9 @@ pub extern "C" fn bootmem_nodes_as(
 ) -> u8
     ensures status { (result ≡ outcome_status (outcome_as profile words.now files.now)) ⊎ (result
         ≡ 7) }
-    ensures nodes { result ≡ 0 → (told : BootedView)
-        × IsBootAs profile words.now files.now told
-        × CopiesValues (node_values told) out.old.room.now out.new.room.now out.new.count }
+    ensures nodes { result ≡ 0 → (booted : BootedView)
+        × IsBootAs profile words.now files.now booted
+        × CopiesValues (node_values booted) out.old.room.now out.new.room.now out.new.count }
     ensures none { result ≢ 0 → CopiesValues [] out.old.room.now out.new.room.now out.new.count }
     ensures unknown { IsNone (profile_of_number profile) → result ≡ 2 }
 {
@@ -137,9 +137,9 @@ pub extern "C" fn bootmem_zones_as(
 ) -> u8
     ensures status { (result ≡ outcome_status (outcome_as profile words.now files.now)) ⊎ (result
         ≡ 7) }
-    ensures zones { result ≡ 0 → (told : BootedView)
-        × IsBootAs profile words.now files.now told
-        × CopiesValues (zone_values told) out.old.room.now out.new.room.now out.new.count }
+    ensures zones { result ≡ 0 → (booted : BootedView)
+        × IsBootAs profile words.now files.now booted
+        × CopiesValues (zone_values booted) out.old.room.now out.new.room.now out.new.count }
     ensures none { result ≢ 0 → CopiesValues [] out.old.room.now out.new.room.now out.new.count }
     ensures unknown { IsNone (profile_of_number profile) → result ≡ 2 }
 {
@@ -170,9 +170,9 @@ pub extern "C" fn bootmem_blocks_as(
 ) -> u8
     ensures status { (result ≡ outcome_status (outcome_as profile words.now files.now)) ⊎ (result
         ≡ 7) }
-    ensures blocks { result ≡ 0 → (told : BootedView)
-        × IsBootAs profile words.now files.now told
-        × CopiesValues (block_values told) out.old.room.now out.new.room.now out.new.count }
+    ensures blocks { result ≡ 0 → (booted : BootedView)
+        × IsBootAs profile words.now files.now booted
+        × CopiesValues (block_values booted) out.old.room.now out.new.room.now out.new.count }
     ensures none { result ≢ 0 → CopiesValues [] out.old.room.now out.new.room.now out.new.count }
     ensures unknown { IsNone (profile_of_number profile) → result ≡ 2 }
 {
@@ -196,9 +196,9 @@ fn boot_for_memory(
     words: &[Bytes<'_>],
     files: &[File<'_>],
 ) -> Result<Vec<MemoryRange>, NoReport>
-    ensures memory { IfOk result (λ ranges. (told : BootedView)
-        × IsBootAs profile words.now files.now told
-        × (ranges.items ≡ memory_values told)) }
+    ensures memory { IfOk result (λ ranges. (booted : BootedView)
+        × IsBootAs profile words.now files.now booted
+        × (ranges.items ≡ memory_values booted)) }
     ensures fails { IfErr result (λ failure. HasOutcomeReason failure (outcome_as profile words.now
         files.now)) }
     ensures unknown { IsNone (profile_of_number profile)
@@ -216,9 +216,9 @@ fn boot_for_nodes(
     words: &[Bytes<'_>],
     files: &[File<'_>],
 ) -> Result<Vec<MemoryNode>, NoReport>
-    ensures nodes { IfOk result (λ nodes. (told : BootedView)
-        × IsBootAs profile words.now files.now told
-        × (nodes.items ≡ node_values told)) }
+    ensures nodes { IfOk result (λ nodes. (booted : BootedView)
+        × IsBootAs profile words.now files.now booted
+        × (nodes.items ≡ node_values booted)) }
     ensures fails { IfErr result (λ failure. HasOutcomeReason failure (outcome_as profile words.now
         files.now)) }
     ensures unknown { IsNone (profile_of_number profile)
@@ -236,9 +236,9 @@ fn boot_for_zones(
     words: &[Bytes<'_>],
     files: &[File<'_>],
 ) -> Result<Vec<ZoneSpan>, NoReport>
-    ensures zones { IfOk result (λ zones. (told : BootedView)
-        × IsBootAs profile words.now files.now told
-        × (zones.items ≡ zone_values told)) }
+    ensures zones { IfOk result (λ zones. (booted : BootedView)
+        × IsBootAs profile words.now files.now booted
+        × (zones.items ≡ zone_values booted)) }
     ensures fails { IfErr result (λ failure. HasOutcomeReason failure (outcome_as profile words.now
         files.now)) }
     ensures unknown { IsNone (profile_of_number profile)
@@ -256,9 +256,9 @@ fn boot_for_blocks(
     words: &[Bytes<'_>],
     files: &[File<'_>],
 ) -> Result<Vec<FreeBlock>, NoReport>
-    ensures blocks { IfOk result (λ blocks. (told : BootedView)
-        × IsBootAs profile words.now files.now told
-        × (blocks.items ≡ block_values told)) }
+    ensures blocks { IfOk result (λ blocks. (booted : BootedView)
+        × IsBootAs profile words.now files.now booted
+        × (blocks.items ≡ block_values booted)) }
     ensures fails { IfErr result (λ failure. HasOutcomeReason failure (outcome_as profile words.now
         files.now)) }
     ensures unknown { IsNone (profile_of_number profile)

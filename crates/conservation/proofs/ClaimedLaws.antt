@@ -24,7 +24,7 @@ first : (f : Owners) (i : Item) (items : List Item) (x : ℕ) (who : Owner) → 
 first f (item.Claim range owner) items x who has none =
     elim (cases_Bool (covers range x)) as (λ _. ComesFrom f (item.Claim range owner ∷ items) x who) [
       | inl inside ↦
-          (let given : Some owner ≡ Some who = rw inside at has in
+          (let inputs : Some owner ≡ Some who = rw inside at has in
           let same : owner ≡ who = cc in
           inr (record {
             before = [];
@@ -38,7 +38,7 @@ first f (item.Claim range owner) items x who has none =
     ]
 first f (item.Free range) items x who has none =
     elim (cases_Bool (covers range x)) as (λ _. ComesFrom f (item.Free range ∷ items) x who) [
-      | inl inside ↦ (let given : None ≡ Some who = rw inside at has in absurd (cc))
+      | inl inside ↦ (let inputs : None ≡ Some who = rw inside at has in absurd (cc))
       | inr outside ↦ inl (rw outside at has, rw outside none)
     ]
 first f i items x who has none = inl (has, none)

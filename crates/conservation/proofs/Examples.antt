@@ -77,22 +77,23 @@ buddy_examples = (refl, refl)
 
 -- this and the next: a block isn't whole if its first frame isn't a multiple of its number of
 -- frames, or if its order is 11
-odd_example : (given : InputsView) (items : List Item) → IsWhole given items (record { order = 1; first = 5; node = 0; zone = zone.Dma })
+odd_example : (inputs : InputsView) (items : List Item) → IsWhole inputs items (record { order = 1; first = 5; node = 0; zone = zone.Dma })
     → ⊥
-odd_example given items whole = let wrong : 1 ≡ 0 = whole.aligned in absurd (omega (arith, wrong))
+odd_example inputs items whole = let wrong : 1 ≡ 0 = whole.aligned in absurd (omega (arith, wrong))
 
-great_example : (given : InputsView) (items : List Item) → IsWhole given items (record { order = 11; first = 0; node = 0; zone = zone.Dma })
+great_example : (inputs : InputsView) (items : List Item)
+    → IsWhole inputs items (record { order = 11; first = 0; node = 0; zone = zone.Dma })
     → ⊥
-great_example given items whole = let wrong : 11 ≤ 10 = whole.small in absurd (omega (arith, wrong))
+great_example inputs items whole = let wrong : 11 ≤ 10 = whole.small in absurd (omega (arith, wrong))
 
 -- this and the next: a block of the greatest order is maximal, and so is a block with a touched
 -- frame in its buddy
-greatest_example : (given : InputsView) (items : List Item)
-    → IsMaximal given items (record { order = 10; first = 0; node = 0; zone = zone.Dma })
-greatest_example given items less = absurd (omega (arith, less))
+greatest_example : (inputs : InputsView) (items : List Item)
+    → IsMaximal inputs items (record { order = 10; first = 0; node = 0; zone = zone.Dma })
+greatest_example inputs items less = absurd (omega (arith, less))
 
-touched_buddy_example : (given : InputsView) → IsMaximal given journal one
-touched_buddy_example given less all = five_not_untouched (all 5 refl).untouched
+touched_buddy_example : (inputs : InputsView) → IsMaximal inputs journal one
+touched_buddy_example inputs less all = five_not_untouched (all 5 refl).untouched
 
 -- a map of two runs: RAM, and then a reserved one
 abbrev two_runs : List (RunOf ℕ)
@@ -112,7 +113,7 @@ out_of_reach map usable = let low = usable.0 in absurd (omega (arith, low))
 
 -- the results of a boot, with these items and these free frames put in
 abbrev telling : BootedView → List Item → Frames → BootedView
-telling told items free = record told { items = items; free = free }
+telling booted items free = record booted { items = items; free = free }
 
 -- frames 4 and 5 are memory of node 1
 abbrev pair_of_node_one : List Item
@@ -127,16 +128,16 @@ five_alone : (node : ℕ) → IsEmptyFrom MAX_FRAMES (five node)
 five_alone node frame far = let other : (frame == 5) ≡ false = grind (arith, nat_tests) in rw other refl
 
 -- a boot is refused if a usable frame is untouched and in no block
-lost_frame : (given : InputsView) (told : BootedView) → IsUsable given 4
-    → AllTouchedOrInOneBlock given (telling told pair_of_node_one (five 1)) → ⊥
-lost_frame given told usable all = elim (all 4 usable) as (λ _. ⊥) [
+lost_frame : (inputs : InputsView) (booted : BootedView) → IsUsable inputs 4
+    → AllTouchedOrInOneBlock inputs (telling booted pair_of_node_one (five 1)) → ⊥
+lost_frame inputs booted usable all = elim (all 4 usable) as (λ _. ⊥) [
   | inl touched ↦ cc (touched.0.owned)
   | inr in_one ↦ (let none = no_block_with (five 1) 4 refl in omega (arith, none, in_one.1))
 ]
 
 -- a boot is refused if a claim touches a frame of a block
-handed_claim : (given : InputsView) (told : BootedView) → NoOtherInABlock given (telling told journal (five 1)) → ⊥
-handed_claim given told none =
+handed_claim : (inputs : InputsView) (booted : BootedView) → NoOtherInABlock inputs (telling booted journal (five 1)) → ⊥
+handed_claim inputs booted none =
     let count : count_blocks_with (blocks_of (five 1)) 5 ≡ 1 = one_block_with (five 1) 5 1 (five_alone 1) refl in
     five_not_untouched (none 5 (omega (arith, count))).1
 
@@ -153,15 +154,15 @@ five_listed node = listed_complete (five node) (five_block node) (five_alone nod
 })
 
 -- frame 5 isn't a whole block if the block's node isn't that of its memory
-other_node : (given : InputsView) (told : BootedView) → BlocksAreWhole given (telling told pair_of_node_one (five 0)) → ⊥
-other_node given told whole =
+other_node : (inputs : InputsView) (booted : BootedView) → BlocksAreWhole inputs (telling booted pair_of_node_one (five 0)) → ⊥
+other_node inputs booted whole =
     let same : Some 1 ≡ Some 0 = ((whole (five_block 0) (five_listed 0)).frames 5 refl).node 0x5000 refl in
     cc same
 
 -- frames 4 and 5 are free for the block of frame 5 with its buddy
-pair_free : (given : InputsView) (frame : ℕ) → 4 ≤ frame → frame < 6 → IsUsable given frame → zone_of frame ≡ zone.Dma
-    → IsFreeFor given pair_of_node_one (block_with_buddy (five_block 1)) frame
-pair_free given frame above below usable low = record {
+pair_free : (inputs : InputsView) (frame : ℕ) → 4 ≤ frame → frame < 6 → IsUsable inputs frame → zone_of frame ≡ zone.Dma
+    → IsFreeFor inputs pair_of_node_one (block_with_buddy (five_block 1)) frame
+pair_free inputs frame above below usable low = record {
   usable = usable;
   untouched = λ x inside. refl;
   node = λ x inside.
@@ -170,31 +171,31 @@ pair_free given frame above below usable low = record {
 }
 
 -- frame 5 alone isn't a maximal block, since its buddy is free too
-half_alone : (given : InputsView) (told : BootedView) → IsUsable given 4 → IsUsable given 5
-    → BlocksAreMaximal given (telling told pair_of_node_one (five 1)) → ⊥
-half_alone given told four_usable five_usable maximal =
+half_alone : (inputs : InputsView) (booted : BootedView) → IsUsable inputs 4 → IsUsable inputs 5
+    → BlocksAreMaximal inputs (telling booted pair_of_node_one (five 1)) → ⊥
+half_alone inputs booted four_usable five_usable maximal =
     maximal (five_block 1) (five_listed 1) (omega arith) (λ frame inside.
-    elim (cases_Bool (frame == 4)) as (λ _. IsFreeFor given pair_of_node_one (block_with_buddy (five_block 1)) frame) [
+    elim (cases_Bool (frame == 4)) as (λ _. IsFreeFor inputs pair_of_node_one (block_with_buddy (five_block 1)) frame) [
       | inl lower ↦
           (let is : frame ≡ 4 = grind (arith, nat_tests) in
-          rw is (pair_free given 4 (omega arith) (omega arith) four_usable refl))
+          rw is (pair_free inputs 4 (omega arith) (omega arith) four_usable refl))
       | inr upper ↦
           (let is : frame ≡ 5 = grind (arith, nat_tests) in
-          rw is (pair_free given 5 (omega arith) (omega arith) five_usable refl))
+          rw is (pair_free inputs 5 (omega arith) (omega arith) five_usable refl))
     ])
 
 -- the results of a boot, with these frames as handed over and this state after the page script
 abbrev paged : BootedView → Frames → PageState → BootedView
-paged told free after = record told { free = free; after = after }
+paged booted free after = record booted { free = free; after = after }
 
 -- a frame that was handed over can't be in no block and not held
-lost_page : (told : BootedView) → AllInOneBlockOrHeld (paged told (five 1) (first_page_state (λ frame. None))) → ⊥
-lost_page told all = elim (all 5 1 refl) as (λ _. ⊥) [
+lost_page : (booted : BootedView) → AllInOneBlockOrHeld (paged booted (five 1) (first_page_state (λ frame. None))) → ⊥
+lost_page booted all = elim (all 5 1 refl) as (λ _. ⊥) [
   | inl in_block ↦ cc ((in_block.0.is.good 5 in_block.0.has).0)
   | inr held ↦ cc (held.0.holds.is)
 ]
 
 -- a frame that wasn't handed over can't be in a block
-page_from_nowhere : (told : BootedView) → NoOtherInABlockOrHeld (paged told (λ frame. None) (first_page_state (five 1))) → ⊥
-page_from_nowhere told none =
+page_from_nowhere : (booted : BootedView) → NoOtherInABlockOrHeld (paged booted (λ frame. None) (first_page_state (five 1))) → ⊥
+page_from_nowhere booted none =
     (none 5 refl).0 (five_block 1) (listed_sound (five 1) (five_block 1) (five_listed 1)) refl

@@ -31,11 +31,11 @@ use Rattle.conservation.proofs.ClaimedLaws.{covers_frame, frame_covers}
 -- What is known of the results of a boot. The bytes of memory are those of the usable frames, and
 -- all bytes of a frame have one label with a node. The free frames are those that are handed over,
 -- and the page script ran on them.
-pub record HasUsableMemory (given : InputsView) (t : BootedView) : Type 0 where
-  pub memory : (x : ℕ) → is_some (memory_of t.items x) ≡ is_usable_frame (types_in_reach given) (x / 4096)
-  pub noded : IsMemoryWithNodes (reach given) (memory_of t.items)
+pub record HasUsableMemory (inputs : InputsView) (t : BootedView) : Type 0 where
+  pub memory : (x : ℕ) → is_some (memory_of t.items x) ≡ is_usable_frame (types_in_reach inputs) (x / 4096)
+  pub noded : IsMemoryWithNodes (reach inputs) (memory_of t.items)
   pub free : t.free ≡ handover_frames t.items
-  pub after : t.after ≡ page_state_after t.lists (first_page_state t.free) given.page_lines
+  pub after : t.after ≡ page_state_after t.lists (first_page_state t.free) inputs.page_lines
 
 -- each byte of a frame, divided by the frame size, gives the frame's number
 number : (frame x : ℕ) → covers (bytes_of_frame frame) x ≡ true → x / 4096 ≡ frame
@@ -61,11 +61,11 @@ some_label (Some label) is = (label, refl)
 abbrev pub alone : ℕ → ℕ → Block
 alone frame node = record { order = 0; first = frame; node = node; zone = zone_of frame }
 
-module _ (given : InputsView) (t : BootedView) (known : HasUsableMemory given t) where
+module _ (inputs : InputsView) (t : BootedView) (known : HasUsableMemory inputs t) where
   -- the bytes of a usable frame are memory
-  held : (frame x : ℕ) → IsUsable given frame → covers (bytes_of_frame frame) x ≡ true → is_some (memory_of t.items x) ≡ true
+  held : (frame x : ℕ) → IsUsable inputs frame → covers (bytes_of_frame frame) x ≡ true → is_some (memory_of t.items x) ≡ true
   held frame x usable inside =
-      known.memory x ∙ ap (λ k. is_usable_frame (types_in_reach given) k) (number frame x inside) ∙ usable
+      known.memory x ∙ ap (λ k. is_usable_frame (types_in_reach inputs) k) (number frame x inside) ∙ usable
 
   -- all bytes of a frame have the label of its first byte
   same_labels : (frame x : ℕ) → covers (bytes_of_frame frame) x ≡ true → memory_of t.items x ≡ memory_of t.items (4096 * frame)
@@ -81,18 +81,18 @@ module _ (given : InputsView) (t : BootedView) (known : HasUsableMemory given t)
 
   -- a frame that is reported as free is usable, and no claim touches it
   pub reported_frame_is_free : (b : Block) (frame : ℕ) → t.free frame ≡ Some b.node → zone_of frame ≡ b.zone
-      → IsFreeFor given t.items b frame
+      → IsFreeFor inputs t.items b frame
   unfolding free_node_in
-  reported_frame_is_free b frame told zone =
+  reported_frame_is_free b frame booted zone =
       let both : ℕ → Bool = λ x. is_some (memory_of t.items x) && is_none (reserved_labels (owner_of t.items) x) in
       let parts = if_some (each_in (bytes_of_frame frame) both) (node_of_frame (memory_of t.items) frame) b.node
-      (ap (λ (f : Frames). f frame) (sym known.free) ∙ told) in
+      (ap (λ (f : Frames). f frame) (sym known.free) ∙ booted) in
       let each = λ (x : ℕ) (inside : covers (bytes_of_frame frame) x ≡ true).
       (let ends = covers_frame frame x inside in
       and_parts (is_some (memory_of t.items x)) (is_none (reserved_labels (owner_of t.items) x))
       (each_in-each (bytes_of_frame frame) both parts.0 x ends.0 ends.1)) in
       record {
-        usable = ap (λ k. is_usable_frame (types_in_reach given) k) (sym (number frame (4096 * frame) (first_byte frame)))
+        usable = ap (λ k. is_usable_frame (types_in_reach inputs) k) (sym (number frame (4096 * frame) (first_byte frame)))
             ∙ sym (known.memory (4096 * frame)) ∙ (each (4096 * frame) (first_byte frame)).0;
         untouched = λ x inside. unowned (owner_of t.items x) (each x inside).1;
         node = λ x inside. ap (λ o. node_of_tag (tag_for o)) (same_labels frame x inside)
@@ -101,7 +101,7 @@ module _ (given : InputsView) (t : BootedView) (known : HasUsableMemory given t)
       }
 
   -- a frame that is usable and untouched is reported as free
-  pub free_frame_is_reported : (b : Block) (frame : ℕ) → IsFreeFor given t.items b frame → t.free frame ≡ Some b.node
+  pub free_frame_is_reported : (b : Block) (frame : ℕ) → IsFreeFor inputs t.items b frame → t.free frame ≡ Some b.node
   unfolding free_node_in
   free_frame_is_reported b frame free =
       let both : ℕ → Bool = λ x. is_some (memory_of t.items x) && is_none (reserved_labels (owner_of t.items) x) in
@@ -113,7 +113,7 @@ module _ (given : InputsView) (t : BootedView) (known : HasUsableMemory given t)
       ∙ rw each (same_node (4096 * frame) (memory_of t.items (4096 * frame)) refl ∙ free.node (4096 * frame) (first_byte frame))
 
   -- each usable frame that no claim touches is free, with some node
-  pub free_of_some : (frame : ℕ) → IsUsable given frame → IsUntouched t.items frame → (node : ℕ) × (t.free frame ≡ Some node)
+  pub free_of_some : (frame : ℕ) → IsUsable inputs frame → IsUntouched t.items frame → (node : ℕ) × (t.free frame ≡ Some node)
   free_of_some frame usable untouched =
       let there = some_label (memory_of t.items (4096 * frame)) (held frame (4096 * frame) usable (first_byte frame)) in
       let one = known.noded.nodes (4096 * frame) there.0 there.1 in (
@@ -130,6 +130,6 @@ module _ (given : InputsView) (t : BootedView) (known : HasUsableMemory given t)
   pub told_below : IsEmptyFrom MAX_FRAMES t.free
   unfolding free_node_in
   told_below frame far =
-      let small = reach-small given in
+      let small = reach-small inputs in
       let none = known.noded.within (4096 * frame) (omega (arith, far, small)) in
       ap (λ (f : Frames). f frame) known.free ∙ grind (arith, ap node_of_label none)

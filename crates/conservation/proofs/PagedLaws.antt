@@ -7,18 +7,18 @@ use Rattle.boot_model.specs.Boot.{ExtraView, InputsView, BootedView, whole_boot_
 use Rattle.conservation.specs.FramePlacesAfterPages.{AllInOneBlockOrHeld, NoOtherInABlockOrHeld}
 use Rattle.conservation.proofs.HeadlineLaws.{below, is_told}
 
-goes : (extra : ExtraView) (given : InputsView) (t : BootedView) → whole_boot_with extra given ≡ Ok t → HaveValidOrders given.page_lines
+goes : (extra : ExtraView) (inputs : InputsView) (t : BootedView) → whole_boot_with extra inputs ≡ Ok t → HaveValidOrders inputs.page_lines
     → Goes t.free t.after
-goes extra given t ends orders =
-    subst (λ (s : PageState). Goes t.free s) (sym (is_told extra given t ends).after)
-    (after_goes t.lists t.free (first_page_state t.free) given.page_lines orders (begun_goes t.free (below extra given t ends)))
+goes extra inputs t ends orders =
+    subst (λ (s : PageState). Goes t.free s) (sym (is_told extra inputs t ends).after)
+    (after_goes t.lists t.free (first_page_state t.free) inputs.page_lines orders (begun_goes t.free (below extra inputs t ends)))
 
-pub all_in_one_or_held : (extra : ExtraView) (given : InputsView) (t : BootedView) → whole_boot_with extra given ≡ Ok t
-    → HaveValidOrders given.page_lines
+pub all_in_one_or_held : (extra : ExtraView) (inputs : InputsView) (t : BootedView) → whole_boot_with extra inputs ≡ Ok t
+    → HaveValidOrders inputs.page_lines
     → AllInOneBlockOrHeld t
-all_in_one_or_held extra given t ends orders frame node free = in_one t.free t.after frame node (goes extra given t ends orders) free
+all_in_one_or_held extra inputs t ends orders frame node free = in_one t.free t.after frame node (goes extra inputs t ends orders) free
 
-pub no_other_in_one_or_held : (extra : ExtraView) (given : InputsView) (t : BootedView) → whole_boot_with extra given ≡ Ok t
-    → HaveValidOrders given.page_lines
+pub no_other_in_one_or_held : (extra : ExtraView) (inputs : InputsView) (t : BootedView) → whole_boot_with extra inputs ≡ Ok t
+    → HaveValidOrders inputs.page_lines
     → NoOtherInABlockOrHeld t
-no_other_in_one_or_held extra given t ends orders frame free = in_none t.free t.after frame (goes extra given t ends orders) free
+no_other_in_one_or_held extra inputs t ends orders frame free = in_none t.free t.after frame (goes extra inputs t ends orders) free

@@ -7,8 +7,8 @@ use Rattle.boot_model.specs.Boot.{BootedView}
 -- each frame that was handed over is in exactly one block of the free frames, or held by exactly
 -- one ID, and not both
 abbrev pub AllInOneBlockOrHeld : BootedView → Type 0
-AllInOneBlockOrHeld told = (frame node : ℕ) → told.free frame ≡ Some node → IsInOneBlockOrHeld told.after frame
+AllInOneBlockOrHeld booted = (frame node : ℕ) → booted.free frame ≡ Some node → IsInOneBlockOrHeld booted.after frame
 
 -- a frame that wasn't handed over is in no block, and no ID holds it
 abbrev pub NoOtherInABlockOrHeld : BootedView → Type 0
-NoOtherInABlockOrHeld told = (frame : ℕ) → told.free frame ≡ None → IsInNoBlockNorHeld told.after frame
+NoOtherInABlockOrHeld booted = (frame : ℕ) → booted.free frame ≡ None → IsInNoBlockNorHeld booted.after frame

@@ -14,60 +14,60 @@ ghost use Rattle.conservation.specs.FramePlacesAfterPages.{AllInOneBlockOrHeld, 
 /// lists, and never both. If a claim touches the frame, the journal records the claim with its
 /// owner. Otherwise the frame is in exactly one block.
 pub fn usable_frames_are_touched_or_in_one_block()
-    ensures own { (given : InputsView) (told : BootedView) → whole_boot given ≡ Ok told
-        → AllTouchedOrInOneBlock given told }
-    ensures by_profile { (extra : ExtraView) (given : InputsView) (told : BootedView) →
-        whole_boot_with extra given ≡ Ok told → AllTouchedOrInOneBlock given told }
+    ensures own { (inputs : InputsView) (booted : BootedView) → whole_boot inputs ≡ Ok booted
+        → AllTouchedOrInOneBlock inputs booted }
+    ensures by_profile { (extra : ExtraView) (inputs : InputsView) (booted : BootedView) →
+        whole_boot_with extra inputs ≡ Ok booted → AllTouchedOrInOneBlock inputs booted }
 {}
 
 /// Law: each frame of a block of the buddy lists is usable, and no claim touches it.
 pub fn no_other_frame_is_in_a_block()
-    ensures own { (given : InputsView) (told : BootedView) → whole_boot given ≡ Ok told
-        → NoOtherInABlock given told }
-    ensures by_profile { (extra : ExtraView) (given : InputsView) (told : BootedView) →
-        whole_boot_with extra given ≡ Ok told → NoOtherInABlock given told }
+    ensures own { (inputs : InputsView) (booted : BootedView) → whole_boot inputs ≡ Ok booted
+        → NoOtherInABlock inputs booted }
+    ensures by_profile { (extra : ExtraView) (inputs : InputsView) (booted : BootedView) →
+        whole_boot_with extra inputs ≡ Ok booted → NoOtherInABlock inputs booted }
 {}
 
 /// Law: each block has an order of at most 10, begins at a multiple of its number of frames, and
 /// lies in one node and one zone.
 pub fn blocks_are_whole()
-    ensures own { (given : InputsView) (told : BootedView) → whole_boot given ≡ Ok told
-        → BlocksAreWhole given told }
-    ensures by_profile { (extra : ExtraView) (given : InputsView) (told : BootedView) →
-        whole_boot_with extra given ≡ Ok told → BlocksAreWhole given told }
+    ensures own { (inputs : InputsView) (booted : BootedView) → whole_boot inputs ≡ Ok booted
+        → BlocksAreWhole inputs booted }
+    ensures by_profile { (extra : ExtraView) (inputs : InputsView) (booted : BootedView) →
+        whole_boot_with extra inputs ≡ Ok booted → BlocksAreWhole inputs booted }
 {}
 
 /// Law: each block is as large as possible. A block of an order below 10 and its buddy together
 /// can't form a block.
 pub fn blocks_are_maximal()
-    ensures own { (given : InputsView) (told : BootedView) → whole_boot given ≡ Ok told
-        → BlocksAreMaximal given told }
-    ensures by_profile { (extra : ExtraView) (given : InputsView) (told : BootedView) →
-        whole_boot_with extra given ≡ Ok told → BlocksAreMaximal given told }
+    ensures own { (inputs : InputsView) (booted : BootedView) → whole_boot inputs ≡ Ok booted
+        → BlocksAreMaximal inputs booted }
+    ensures by_profile { (extra : ExtraView) (inputs : InputsView) (booted : BootedView) →
+        whole_boot_with extra inputs ≡ Ok booted → BlocksAreMaximal inputs booted }
 {}
 
 /// Law: after the page script each frame that was handed over is in exactly one block, or held by
 /// exactly one ID of the script, and not both. No other frame is in a block or held.
 pub fn handed_frames_stay_in_one_block_or_held()
-    ensures each { (given : InputsView) (told : BootedView) → whole_boot given ≡ Ok told
-        → HaveValidOrders given.page_lines → AllInOneBlockOrHeld told }
-    ensures others { (given : InputsView) (told : BootedView) → whole_boot given ≡ Ok told
-        → HaveValidOrders given.page_lines → NoOtherInABlockOrHeld told }
-    ensures each_by_profile { (extra : ExtraView) (given : InputsView) (told : BootedView) →
-        whole_boot_with extra given ≡ Ok told
-        → HaveValidOrders given.page_lines → AllInOneBlockOrHeld told }
-    ensures others_by_profile { (extra : ExtraView) (given : InputsView) (told : BootedView) →
-        whole_boot_with extra given ≡ Ok told
-        → HaveValidOrders given.page_lines → NoOtherInABlockOrHeld told }
+    ensures each { (inputs : InputsView) (booted : BootedView) → whole_boot inputs ≡ Ok booted
+        → HaveValidOrders inputs.page_lines → AllInOneBlockOrHeld booted }
+    ensures others { (inputs : InputsView) (booted : BootedView) → whole_boot inputs ≡ Ok booted
+        → HaveValidOrders inputs.page_lines → NoOtherInABlockOrHeld booted }
+    ensures each_by_profile { (extra : ExtraView) (inputs : InputsView) (booted : BootedView) →
+        whole_boot_with extra inputs ≡ Ok booted
+        → HaveValidOrders inputs.page_lines → AllInOneBlockOrHeld booted }
+    ensures others_by_profile { (extra : ExtraView) (inputs : InputsView) (booted : BootedView) →
+        whole_boot_with extra inputs ≡ Ok booted
+        → HaveValidOrders inputs.page_lines → NoOtherInABlockOrHeld booted }
 {}
 
 /// Law: a frame is usable exactly if it lies below the limit of physical addresses and all its
 /// bytes are RAM or the kernel's own memory in the map that the boot reports.
 pub fn map_determines_usable_frames()
-    ensures own { (given : InputsView) (told : BootedView) (frame : ℕ) → whole_boot given ≡ Ok
-        told →
-        (IsUsable given frame ↔ IsUsableByMap (booted_address_limit told) told.map frame) }
-    ensures by_profile { (extra : ExtraView) (given : InputsView) (told : BootedView) (frame : ℕ) →
-        whole_boot_with extra given ≡ Ok told →
-        (IsUsable given frame ↔ IsUsableByMap (booted_address_limit told) told.map frame) }
+    ensures own { (inputs : InputsView) (booted : BootedView) (frame : ℕ) →
+        whole_boot inputs ≡ Ok booted →
+        (IsUsable inputs frame ↔ IsUsableByMap (booted_address_limit booted) booted.map frame) }
+    ensures by_profile { (extra : ExtraView) (inputs : InputsView) (booted : BootedView) (frame : ℕ)
+        → whole_boot_with extra inputs ≡ Ok booted →
+        (IsUsable inputs frame ↔ IsUsableByMap (booted_address_limit booted) booted.map frame) }
 {}

@@ -27,20 +27,21 @@ tables_stand b memory reserved have = record {
 }
 
 -- records that print the same lines give the same report
-text_alike : (report : Report) (told : BootedView) (these those : TableRecords) → records_text these.memory ≡ records_text those.memory
-    → records_text these.reserved ≡ records_text those.reserved → render report told these ≡ render report told those
-text_alike report told these those memory reserved = grind (arith, memory, reserved)
+text_alike : (report : Report) (booted : BootedView) (these those : TableRecords) → records_text these.memory ≡ records_text those.memory
+    → records_text these.reserved ≡ records_text those.reserved → render report booted these ≡ render report booted those
+text_alike report booted these those memory reserved = grind (arith, memory, reserved)
 
-list_alike : (several : Bool) (told : BootedView) (these those : TableRecords) (list : List Report)
+list_alike : (several : Bool) (booted : BootedView) (these those : TableRecords) (list : List Report)
     → records_text these.memory ≡ records_text those.memory → records_text these.reserved ≡ records_text those.reserved
-    → flat_map (render_part several told these) list ≡ flat_map (render_part several told those) list
-list_alike several told these those [] memory reserved = refl
-list_alike several told these those (report ∷ list) memory reserved =
-    rw (text_alike report told these those memory reserved, list_alike several told these those list memory reserved) refl
+    → flat_map (render_part several booted these) list ≡ flat_map (render_part several booted those) list
+list_alike several booted these those [] memory reserved = refl
+list_alike several booted these those (report ∷ list) memory reserved =
+    rw (text_alike report booted these those memory reserved, list_alike several booted these those list memory reserved) refl
 
-pub tables_shown : (b : Booted) (memory reserved : TableView) (told : BootedView) (list : List Report) → HaveTables b memory reserved
-    → render_list list told (records_at_heads b) ≡ render_list list told (record { memory = memory.records; reserved = reserved.records })
-tables_shown b memory reserved told list have =
-    list_alike (nat_lt 1 (length list)) told (records_at_heads b) (record { memory = memory.records; reserved = reserved.records }) list
+pub tables_shown : (b : Booted) (memory reserved : TableView) (booted : BootedView) (list : List Report) → HaveTables b memory reserved
+    → render_list list booted (records_at_heads b)
+    ≡ render_list list booted (record { memory = memory.records; reserved = reserved.records })
+tables_shown b memory reserved booted list have =
+    list_alike (nat_lt 1 (length list)) booted (records_at_heads b) (record { memory = memory.records; reserved = reserved.records }) list
     (rw have.memory_told (standing_text memory b.store have.memory_stands))
     (rw have.reserved_told (standing_text reserved b.store have.reserved_stands))

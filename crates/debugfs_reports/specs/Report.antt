@@ -73,35 +73,35 @@ pub record TableRecords : Type 0 where
   pub memory : List (RunOf LabelView)
   pub reserved : List (RunOf LabelView)
 
--- The text of a report. `told` is what contracts see of the result of the boot. `records` has the
+-- The text of a report. `booted` is what contracts see of the result of the boot. `records` has the
 -- records that are in the bytes of memblock's two tables; only the reports `memory` and `reserved`
 -- show them.
 abbrev pub render : Report → BootedView → TableRecords → List ℕ
-render reports.Map told records = map_text told.map
-render reports.Options told records = options_text told.options
-render reports.Nodes told records = nodes_text told.nodes told.items
-render reports.Memory told records = records_text records.memory
-render reports.Reserved told records = records_text records.reserved
-render reports.Owners told records = owners_text (owner_runs_of told.items)
-render reports.Journal told records = journal_text told.items
-render reports.Crash told records = crash_text told.crash
-render reports.Sections told records = sections_text told.sections.roots told.sections.placed
-render reports.Zones told records = zones_text told.free told.spans
-render reports.Script told records = script_text told.answers
-render reports.Tables told records = tables_text told.heads
-render reports.Buddyinfo told records = buddyinfo_text told.free told.spans
-render reports.Blocks told records = blocks_text told.free
-render reports.Pages told records = pages_text told.page_answers
-render reports.Pagesinfo told records = buddyinfo_text told.after.frames told.spans
-render reports.Zonelists told records = zonelists_text told.lists
-render reports.Summary told records = summary_text (summary_of told)
-render reports.Claims told records = script_text told.claim_answers
+render reports.Map booted records = map_text booted.map
+render reports.Options booted records = options_text booted.options
+render reports.Nodes booted records = nodes_text booted.nodes booted.items
+render reports.Memory booted records = records_text records.memory
+render reports.Reserved booted records = records_text records.reserved
+render reports.Owners booted records = owners_text (owner_runs_of booted.items)
+render reports.Journal booted records = journal_text booted.items
+render reports.Crash booted records = crash_text booted.crash
+render reports.Sections booted records = sections_text booted.sections.roots booted.sections.placed
+render reports.Zones booted records = zones_text booted.free booted.spans
+render reports.Script booted records = script_text booted.answers
+render reports.Tables booted records = tables_text booted.heads
+render reports.Buddyinfo booted records = buddyinfo_text booted.free booted.spans
+render reports.Blocks booted records = blocks_text booted.free
+render reports.Pages booted records = pages_text booted.page_answers
+render reports.Pagesinfo booted records = buddyinfo_text booted.after.frames booted.spans
+render reports.Zonelists booted records = zonelists_text booted.lists
+render reports.Summary booted records = summary_text (summary_of booted)
+render reports.Claims booted records = script_text booted.claim_answers
 
 -- the records of memblock's two tables that result from the journal of the boot
 abbrev pub journal_records : BootedView → TableRecords
-journal_records told = record { memory = records_of which.Memory told.items; reserved = records_of which.Reserved told.items }
+journal_records booted = record { memory = records_of which.Memory booted.items; reserved = records_of which.Reserved booted.items }
 
 -- the text of a report, if the bytes of memblock's two tables have the records that result from the
 -- journal of the boot
 abbrev pub report_text : Report → BootedView → List ℕ
-report_text report told = render report told (journal_records told)
+report_text report booted = render report booted (journal_records booted)

@@ -35,19 +35,19 @@ report_title several report = if several then codes "== " ++ report_name report 
 -- what one report contributes to the text of a list of reports: its title line if the list has
 -- several, and then its text. `records` has the records in the bytes of memblock's two tables.
 abbrev pub render_part : Bool → BootedView → TableRecords → Report → List ℕ
-render_part several told records report = report_title several report ++ render report told records
+render_part several booted records report = report_title several report ++ render report booted records
 
 -- what one report contributes to the text of a list of reports, if the bytes of memblock's two
 -- tables have the records that result from the journal of the boot
 abbrev pub report_part : Bool → BootedView → Report → List ℕ
-report_part several told report = render_part several told (journal_records told) report
+report_part several booted report = render_part several booted (journal_records booted) report
 
 -- the text of a list of reports: their titles, if there are several, and their texts, in the order
 -- of the list. `records` has the records in the bytes of memblock's two tables.
 abbrev pub render_list : List Report → BootedView → TableRecords → List ℕ
-render_list reports told records = flat_map (render_part (nat_lt 1 (length reports)) told records) reports
+render_list reports booted records = flat_map (render_part (nat_lt 1 (length reports)) booted records) reports
 
 -- the text of a list of reports, if the bytes of memblock's two tables have the records that result
 -- from the journal of the boot
 abbrev pub report_list_text : List Report → BootedView → List ℕ
-report_list_text reports told = render_list reports told (journal_records told)
+report_list_text reports booted = render_list reports booted (journal_records booted)

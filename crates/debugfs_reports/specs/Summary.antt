@@ -23,11 +23,11 @@ fullness_of head = record { records = head.count; room = head.room }
 -- of physical addresses (`e820__memblock_setup`). The free frames are those that the page allocator
 -- gets (`memblock_free_all`).
 abbrev pub summary_of : BootedView → Summary
-summary_of told = record {
-  runs = length told.map;
-  usable = usable_frames (types_below (booted_address_limit told) (value_at told.map));
-  free = total_frames_of_blocks (blocks_of told.free);
-  memory = fullness_of told.heads.memory;
-  reserved = fullness_of told.heads.reserved;
-  blocks = length (blocks_of told.free);
+summary_of booted = record {
+  runs = length booted.map;
+  usable = usable_frames (types_below (booted_address_limit booted) (value_at booted.map));
+  free = total_frames_of_blocks (blocks_of booted.free);
+  memory = fullness_of booted.heads.memory;
+  reserved = fullness_of booted.heads.reserved;
+  blocks = length (blocks_of booted.free);
 }

@@ -34,18 +34,18 @@ record Asked : Type 0 where
   made : Option ℕ
 
 abbrev seen : BootmemArgsView → Asked
-seen wanted = record {
-  zero_page = wanted.named inputs.ZeroPage;
-  extension = wanted.named inputs.Extension;
-  command_line = wanted.named inputs.CommandLine;
-  srat = wanted.named inputs.Srat;
-  script = wanted.named inputs.Script;
-  pages = wanted.named inputs.Pages;
-  slit = wanted.named inputs.Slit;
-  efi = wanted.named inputs.Efi;
-  begun = wanted.begun;
-  reports = wanted.reports;
-  made = wanted.made;
+seen args = record {
+  zero_page = args.named inputs.ZeroPage;
+  extension = args.named inputs.Extension;
+  command_line = args.named inputs.CommandLine;
+  srat = args.named inputs.Srat;
+  script = args.named inputs.Script;
+  pages = args.named inputs.Pages;
+  slit = args.named inputs.Slit;
+  efi = args.named inputs.Efi;
+  begun = args.begun;
+  reports = args.reports;
+  made = args.made;
 }
 
 abbrev asked : List (List ℕ) → Option Asked

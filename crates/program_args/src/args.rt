@@ -72,7 +72,7 @@ impl BootmemArgs<'_> {
 impl<'w> Names for BootmemArgs<'w> {
     ghost use Rattle.program_args.specs.View.{bootmem_args_view};
 
-    ghost named = { λ wanted. (bootmem_args_view wanted).named };
+    ghost named = { λ args. (bootmem_args_view args).named };
 
     fn of(&self, input: Input) -> Option<&str> {
         if input == Input::Claims {
@@ -86,20 +86,20 @@ impl<'w> Names for BootmemArgs<'w> {
 #[derive(Clone, Copy)]
 pub struct NamesWithClaims<'a, 'w> {
     /// The accepted command line.
-    pub wanted: &'a BootmemArgs<'w>,
+    pub args: &'a BootmemArgs<'w>,
 }
 
 impl<'a, 'w> Names for NamesWithClaims<'a, 'w> {
     ghost use Rattle.program_args.specs.Args.{named61};
     ghost use Rattle.program_args.specs.View.{program_args_view};
 
-    ghost named = { λ names. named61 (program_args_view names.wanted.now) };
+    ghost named = { λ names. named61 (program_args_view names.args.now) };
 
     fn of(&self, input: Input) -> Option<&str> {
         if input == Input::Claims {
-            return self.wanted.claims();
+            return self.args.claims();
         }
-        self.wanted.of(input)
+        self.args.of(input)
     }
 }
 

@@ -28,19 +28,19 @@ stopped : {A : Type 0} (stop : Stop) (answer : Result A Cause) (next : A → Res
     → FitsError input_place (reason_by_stop stop) (value_or_stopped answer >>= next)
 stopped stop answer next stops_so = grind arith
 
-pub boot_stopped : (stop : Stop) (given : InputsView) (reports : List Report)
-    → (stop ≢ stops.Memory → map_error stop_of (whole_boot given) ≡ Err stop)
-    → FitsError input_place (reason_by_stop stop) (reports_on_boot reports given)
-boot_stopped stop given reports stops_so = stopped stop (whole_boot given) (λ told. Ok (report_list_text reports told)) stops_so
+pub boot_stopped : (stop : Stop) (inputs : InputsView) (reports : List Report)
+    → (stop ≢ stops.Memory → map_error stop_of (whole_boot inputs) ≡ Err stop)
+    → FitsError input_place (reason_by_stop stop) (reports_on_boot reports inputs)
+boot_stopped stop inputs reports stops_so = stopped stop (whole_boot inputs) (λ booted. Ok (report_list_text reports booted)) stops_so
 
-pub boot61_stopped : (stop : Stop) (given : InputsWithClaims) (reports : List Report)
-    → (stop ≢ stops.Memory → map_error stop_of (whole_boot_with (linux_extra given.claims) given.inputs) ≡ Err stop)
-    → FitsError input_place (reason_by_stop stop) (reports_on_boot61 reports given)
-boot61_stopped stop given reports stops_so =
-    stopped stop (whole_boot_with (linux_extra given.claims) given.inputs) (λ told. Ok (report_list_text reports told)) stops_so
+pub boot61_stopped : (stop : Stop) (read : InputsWithClaims) (reports : List Report)
+    → (stop ≢ stops.Memory → map_error stop_of (whole_boot_with (linux_extra read.claims) read.inputs) ≡ Err stop)
+    → FitsError input_place (reason_by_stop stop) (reports_on_boot61 reports read)
+boot61_stopped stop read reports stops_so =
+    stopped stop (whole_boot_with (linux_extra read.claims) read.inputs) (λ booted. Ok (report_list_text reports booted)) stops_so
 
-pub told_is : (answer : Result BootedView Cause) (told : BootedView) → map_error stop_of answer ≡ Ok told → answer ≡ Ok told
-told_is answer told is = grind arith
+pub told_is : (answer : Result BootedView Cause) (booted : BootedView) → map_error stop_of answer ≡ Ok booted → answer ≡ Ok booted
+told_is answer booted is = grind arith
 
 -- the bytes of the tables have the records that the boot's items give, so a report is the same from
 -- either
@@ -48,9 +48,9 @@ have_tables : (b : Booted) (memory : IsStoredTable which.Memory b.journal.items 
     (reserved : IsStoredTable which.Reserved b.journal.items b.store b.heads.reserved) → HaveTables b memory.table reserved.table
 have_tables b memory reserved = record {
   memory_stands = memory.stands;
-  memory_told = memory.told;
+  memory_told = memory.head_is;
   reserved_stands = reserved.stands;
-  reserved_told = reserved.told;
+  reserved_told = reserved.head_is;
 }
 
 pub items_stand : (b : Booted) → IsStoredTable which.Memory b.journal.items b.store b.heads.memory

@@ -52,8 +52,8 @@ page =
 abbrev held : FileContents
 held name = if bytes_eq name (codes "zp") then Some page else None
 
-abbrev given : InputsView
-given = record (inputs_without_files Bits46 (record { base = 0x1000000; size = 0x2000000 })) { entries = ram ∷ reserved ∷ [] }
+abbrev inputs : InputsView
+inputs = record (inputs_without_files Bits46 (record { base = 0x1000000; size = 0x2000000 })) { entries = ram ∷ reserved ∷ [] }
 
 -- the type of each address: the greater one, if both entries cover it
 kind_at : ℕ → ℕ
@@ -63,9 +63,9 @@ small : (x : ℕ) → kind_at x < 2 ^ 32
 unfolding kind_at
 small x = grind (arith, nat_tests)
 
-entries_give : (x : ℕ) → type_of (claims_of_entries given.entries) x ≡ kind_at x
+entries_give : (x : ℕ) → type_of (claims_of_entries inputs.entries) x ≡ kind_at x
 unfolding kind_at
-entries_give x = greatest_is (claims_of_entries given.entries x) (kind_at x) (small x)
+entries_give x = greatest_is (claims_of_entries inputs.entries x) (kind_at x) (small x)
     (λ some. grind (arith, nat_tests))
     (λ k higher low. grind (arith, nat_tests))
 
@@ -91,7 +91,7 @@ only_trimmed : (c : Claims) → IsOnly c → IsOnly (after_bios_trim c)
 unfolding IsOnly kind_at
 only_trimmed c only x k = rw (only x k, only x 1) (grind (arith, nat_tests))
 
-only_claims : IsOnly (claims given)
+only_claims : IsOnly (claims inputs)
 only_claims =
     only_trimmed _ (only_settled _
     (only_gives _ (only_added _ (only_settled _ (only_gives _ (only_added _ (only_settled _ entries_give)))))))
@@ -100,45 +100,45 @@ only_claims =
 abbrev runs : List (RunOf ℕ)
 runs = record { base = 0x100000; size = 0x7EE0000; value = 1 } ∷ record { base = 0x7FE0000; size = 0x20000; value = 2 } ∷ []
 
-kinds_are : (x : ℕ) → kinds (claims given) x ≡ value_at runs x
+kinds_are : (x : ℕ) → kinds (claims inputs) x ≡ value_at runs x
 unfolding kind_at
-kinds_are x = ap type_unless_zero (only_gives (claims given) only_claims x) ∙ grind (arith, nat_tests)
+kinds_are x = ap type_unless_zero (only_gives (claims inputs) only_claims x) ∙ grind (arith, nat_tests)
 
-none_above : (x : ℕ) → 2 ^ 64 ≤ x → kinds (claims given) x ≡ None
+none_above : (x : ℕ) → 2 ^ 64 ≤ x → kinds (claims inputs) x ≡ None
 unfolding kind_at
 none_above x far = kinds_are x ∙ grind (arith, nat_tests)
 
 are_runs : AreRuns runs
 are_runs = (omega arith, (omega arith, λ touch same. omega (arith, same)), (omega arith, tt, tt))
 
-map_is : map_of (claims given) ≡ runs
+map_is : map_of (claims inputs) ≡ runs
 map_is =
-    runs_of_function_are_equal (kinds (claims given)) _ _ (map_runs (claims given) none_above)
+    runs_of_function_are_equal (kinds (claims inputs)) _ _ (map_runs (claims inputs) none_above)
     (record { runs = are_runs; each = λ x. sym (kinds_are x) })
 
 -- the RAM has 32,480 whole frames, all below the limit of physical addresses
-memory_is : (x : ℕ) → is_memory (types_below (reach given) (kinds (claims given)) x) ≡ (nat_le 0x100000 x && nat_lt x 0x7FE0000)
-memory_is x = memory_reached (reach given) (kinds (claims given)) x ∙ rw (kinds_are x) (grind (arith, nat_tests))
+memory_is : (x : ℕ) → is_memory (types_below (reach inputs) (kinds (claims inputs)) x) ≡ (nat_le 0x100000 x && nat_lt x 0x7FE0000)
+memory_is x = memory_reached (reach inputs) (kinds (claims inputs)) x ∙ rw (kinds_are x) (grind (arith, nat_tests))
 
-frames_are : usable_frames (types_below (reach given) (kinds (claims given))) ≡ 32480
+frames_are : usable_frames (types_below (reach inputs) (kinds (claims inputs))) ≡ 32480
 frames_are =
-    usable_count (types_below (reach given) (kinds (claims given)))
+    usable_count (types_below (reach inputs) (kinds (claims inputs)))
     ∙ count_same _ _ (2 ^ 52) (λ frame low. each_in-same (bytes_of_frame frame) _ _ (λ x from below. memory_is x))
     ∙ count_frames_between 0x100000 0x7FE0000 (2 ^ 52)
 
 -- the items that are written before nodes are known; they are few enough that no table grows
-abbrev wanted : List Item
-wanted = early_items (early_inputs given) runs
+abbrev args : List Item
+args = early_items (early_inputs inputs) runs
 
-few_wanted : NeedNone 0 0 wanted
+few_wanted : NeedNone 0 0 args
 few_wanted = (omega arith, omega arith, (omega arith, omega arith, (omega arith, omega arith, (omega arith, omega arith, tt))))
 
-wanted_is_made : carry_out_items wanted [] ≡ Ok wanted
-wanted_is_made = few_from_nothing wanted few_wanted
+wanted_is_made : carry_out_items args [] ≡ Ok args
+wanted_is_made = few_from_nothing args few_wanted
 
 -- the boot doesn't stop before memory is made
-memory_is_made : (judge_map given >>= memory_stage given) ≡ Ok (record (begin_with_map runs no_options) { items = wanted })
-memory_is_made = rw (map_is, frames_are) (memory_made_by given (begin_with_map runs no_options) wanted wanted_is_made)
+memory_is_made : (judge_map inputs >>= memory_stage inputs) ≡ Ok (record (begin_with_map runs no_options) { items = args })
+memory_is_made = rw (map_is, frames_are) (memory_made_by inputs (begin_with_map runs no_options) args wanted_is_made)
 
 -- the words of the command line
 abbrev spellings : List Spelling
@@ -159,9 +159,9 @@ words_ask : read_args (codes "--report" ∷ codes "map" ∷ codes "zp" ∷ []) �
 words_ask = accepted_as_given spellings are_spellings
 
 -- if the later stages don't stop, this text is written
-first_run : (made : BootSoFar) → boot given ≡ Ok made → bootmem_outcome (read_args (codes "--report" ∷ codes "map" ∷ codes "zp" ∷ [])) held
+first_run : (made : BootSoFar) → boot inputs ≡ Ok made → bootmem_outcome (read_args (codes "--report" ∷ codes "map" ∷ codes "zp" ∷ [])) held
     ≡ Ok (codes "0x0000000000100000..0x0000000007fdffff 1 usable\n0x0000000007fe0000..0x0000000007ffffff 2 reserved\n")
 unfolding boot entry_at digits initrd_of is_initrd_far
 first_run made ends =
-    let map : made.map ≡ runs = (goes_on no_extra given made ends).map ∙ map_is in
+    let map : made.map ≡ runs = (goes_on no_extra inputs made ends).map ∙ map_is in
     ap (λ words. bootmem_outcome words held) words_ask ∙ rw (ends, map) refl

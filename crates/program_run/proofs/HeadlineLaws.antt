@@ -32,23 +32,23 @@ text_after (Ok a) next P is = (a, refl, is)
 text_after (Err error) next P is = absurd is
 
 boot_after : (answer : Result BootedView Cause) (next : BootedView → Result (List ℕ) InputsReason) (P : List ℕ → Type 0)
-    → IsOkAnd (value_or_stopped answer >>= next) P → (told : BootedView) × (answer ≡ Ok told) × IsOkAnd (next told) P
-boot_after (Ok told) next P is = (told, refl, is)
+    → IsOkAnd (value_or_stopped answer >>= next) P → (booted : BootedView) × (answer ≡ Ok booted) × IsOkAnd (next booted) P
+boot_after (Ok booted) next P is = (booted, refl, is)
 boot_after (Err cause) next P is = absurd is
 
 pub is_reported : (accepted : Option BootmemArgsView) (held : FileContents) (old new : Option (List ℕ))
     → IsOkAnd (bootmem_outcome accepted held) (λ text. Appends old new text) → AppendsReports accepted held old new
 is_reported None held old new is = absurd is
-is_reported (Some wanted) held old new is =
+is_reported (Some args) held old new is =
     let P : List ℕ → Type 0 = λ text. Appends old new text in
-    let first = text_after (read_boot_inputs held wanted) (reports_on_boot wanted.reports) P is in
-    let last = boot_after (whole_boot first.0) (λ told. Ok (report_list_text wanted.reports told)) P first.2 in
+    let first = text_after (read_boot_inputs held args) (reports_on_boot args.reports) P is in
+    let last = boot_after (whole_boot first.0) (λ booted. Ok (report_list_text args.reports booted)) P first.2 in
     record {
-      wanted = wanted;
-      given = first.0;
-      told = last.0;
-      words = refl;
-      inputs = first.1;
+      args = args;
+      inputs = first.0;
+      booted = last.0;
+      args_read = refl;
+      inputs_read = first.1;
       boots = last.1;
       written = last.2;
       each = all_touched_or_in_one no_extra first.0 last.0 (own_told last.0 first.0 last.1);
@@ -60,25 +60,25 @@ is_reported (Some wanted) held old new is =
 pub is_reported61 : (accepted : Option ProgramArgsView) (held : FileContents) (old new : Option (List ℕ))
     → IsOkAnd (bootmem61_outcome accepted held) (λ text. Appends old new text) → AppendsReports61 accepted held old new
 is_reported61 None held old new is = absurd is
-is_reported61 (Some wanted) held old new is =
+is_reported61 (Some args) held old new is =
     let P : List ℕ → Type 0 = λ text. Appends old new text in
-    let reports = reports_of_list61 wanted.list in
-    let first = text_after (read_boot_inputs61 held wanted) (reports_on_boot61 reports) P is in
+    let reports = reports_of_list61 args.list in
+    let first = text_after (read_boot_inputs61 held args) (reports_on_boot61 reports) P is in
     let extra = linux_extra first.0.claims in
-    let given = first.0.inputs in
-    let last = boot_after (whole_boot_with extra given) (λ told. Ok (report_list_text reports told)) P first.2 in
+    let read = first.0.inputs in
+    let last = boot_after (whole_boot_with extra read) (λ booted. Ok (report_list_text reports booted)) P first.2 in
     record {
-      wanted = wanted;
-      given = first.0;
-      told = last.0;
-      words = refl;
-      inputs = first.1;
+      args = args;
+      read = first.0;
+      booted = last.0;
+      args_read = refl;
+      inputs_read = first.1;
       boots = last.1;
       written = last.2;
-      each = all_touched_or_in_one extra given last.0 last.1;
-      others = no_other_in_a_block extra given last.0 last.1;
-      whole = blocks_whole extra given last.0 last.1;
-      maximal = blocks_maximal extra given last.0 last.1;
+      each = all_touched_or_in_one extra read last.0 last.1;
+      others = no_other_in_a_block extra read last.0 last.1;
+      whole = blocks_whole extra read last.0 last.1;
+      maximal = blocks_maximal extra read last.0 last.1;
     }
 
 unread_end : {W : Type 0} (named : W → FileNames) (before now : List ℕ → ℕ) (accepted : Option W) (end : End InputsReason)

@@ -86,6 +86,6 @@ made_examples : (h : FileContents)
 unfolding generated_entries_from
 made_examples h = (refl, refl, refl)
 
-stop_is_reported : (given : InputsView) → boot given ≡ Err causes.NoRam
-    → reports_on_boot (reports.Map ∷ []) given ≡ Err (reasons.Stopped causes.NoRam)
-stop_is_reported given stops = rw stops refl
+stop_is_reported : (inputs : InputsView) → boot inputs ≡ Err causes.NoRam
+    → reports_on_boot (reports.Map ∷ []) inputs ≡ Err (reasons.Stopped causes.NoRam)
+stop_is_reported inputs stops = rw stops refl

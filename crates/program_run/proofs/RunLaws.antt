@@ -17,37 +17,39 @@ use Rattle.program_run.specs.Outcome.{value_or_stopped}
 use Rattle.program_run.specs.Stops.{reason_by_args_error}
 
 -- the outcome after the boot, whose cause is the only reason that it may add
-boot_fits : {A T B : Type 0} (error : NoInputs) (given : A) (answer : Result T Cause) (text : T → B) (said : Result A InputsReason)
-    → said ≡ Ok given → FitsError input_place error said → FitsError input_place error (value_or_stopped answer >>= λ told. Ok (text told))
-boot_fits error given answer text said is fits = grind arith
+boot_fits : {A T B : Type 0} (error : NoInputs) (inputs : A) (answer : Result T Cause) (text : T → B) (said : Result A InputsReason)
+    → said ≡ Ok inputs → FitsError input_place error said
+    → FitsError input_place error (value_or_stopped answer >>= λ booted. Ok (text booted))
+boot_fits error inputs answer text said is fits = grind arith
 
 -- a file that is reached when the inputs are read is reached by the outcome
 refused_after : {A T B : Type 0} (error : NoInputs) (said : Result A InputsReason) (boot : A → Result T Cause) (text : T → B)
     → FitsError input_place error said → FitsError input_place error
-    (said >>= λ given. value_or_stopped (boot given) >>= λ told. Ok (text told))
-refused_after error (Ok given) boot text fits = boot_fits error given (boot given) text (Ok given) refl fits
+    (said >>= λ inputs. value_or_stopped (boot inputs) >>= λ booted. Ok (text booted))
+refused_after error (Ok inputs) boot text fits = boot_fits error inputs (boot inputs) text (Ok inputs) refl fits
 refused_after error (Err reason) boot text fits = grind arith
 
 fetches_after : {A T B X : Type 0} (view : X → B) (r : Result X NoInputs) (said : Result A InputsReason) (boot : A → Result T Cause)
     (text : T → B) (error : NoInputs)
     → IsErrAnd r (λ other. other ≡ error) → FitsError input_place error said
-    → Fetches input_place view r (said >>= λ given. value_or_stopped (boot given) >>= λ told. Ok (text told))
+    → Fetches input_place view r (said >>= λ inputs. value_or_stopped (boot inputs) >>= λ booted. Ok (text booted))
 fetches_after view (Err other) said boot text error is fits = rw is (refused_after error said boot text fits)
 fetches_after view (Ok value) said boot text error is fits = absurd is
 
-pub fetches_none : {A T B X : Type 0} (view : X → B) (r : Result X NoInputs) (told : Option FileContents)
+pub fetches_none : {A T B X : Type 0} (view : X → B) (r : Result X NoInputs) (files : Option FileContents)
     (read : FileContents → Result A InputsReason) (boot : A → Result T Cause) (text : T → B) (error : NoInputs)
-    → IsErrAnd r (λ other. other ≡ error) → IfSome told (λ held. FitsError input_place error (read held))
-    → IfSome told (λ held. Fetches input_place view r (read held >>= λ given. value_or_stopped (boot given) >>= λ told. Ok (text told)))
+    → IsErrAnd r (λ other. other ≡ error) → IfSome files (λ held. FitsError input_place error (read held))
+    → IfSome files (λ held. Fetches input_place view r
+    (read held >>= λ inputs. value_or_stopped (boot inputs) >>= λ files. Ok (text files)))
 fetches_none view r None read boot text error is fits = tt
 fetches_none view r (Some held) read boot text error is fits = fetches_after view r (read held) boot text error is fits
 
 -- if reading the command line succeeds, the command line is accepted
-pub are_accepted : {W : Type 0} (accepted : Option W) (wanted : W) → or_refused accepted ≡ Ok wanted → accepted ≡ Some wanted
-are_accepted accepted wanted is = grind arith
+pub are_accepted : {W : Type 0} (accepted : Option W) (args : W) → or_refused accepted ≡ Ok args → accepted ≡ Some args
+are_accepted accepted args is = grind arith
 
-pub never_refused : {W : Type 0} (accepted : Option W) (wanted : W) → or_refused accepted ≡ Ok wanted → IsNone accepted → ⊥
-never_refused accepted wanted is none = grind arith
+pub never_refused : {W : Type 0} (accepted : Option W) (args : W) → or_refused accepted ≡ Ok args → IsNone accepted → ⊥
+never_refused accepted args is none = grind arith
 
 -- if reading the command line fails, the command line is refused or memory ran out
 pub words_cause : {W A : Type 0} (program : Program W Input A) (before now : List ℕ → ℕ) (accepted : Option W) (error : ArgsError)

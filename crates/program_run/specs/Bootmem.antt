@@ -21,7 +21,7 @@ reports_program named = record {
 
 -- the program `bootmem`
 abbrev pub bootmem : Program BootmemArgsView Input (List ℕ)
-bootmem = reports_program (λ wanted. wanted.named)
+bootmem = reports_program (λ args. args.named)
 
 -- the program `bootmem61`, which also reads a file of early claims
 abbrev pub bootmem61 : Program ProgramArgsView Input (List ℕ)

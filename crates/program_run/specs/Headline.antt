@@ -16,17 +16,17 @@ use Rattle.program_args.specs.Args.{BootmemArgsView, ProgramArgsView}
 -- block (`each`). No other frame is in a block (`others`). Each block is aligned and free, lies in
 -- one node and one zone (`whole`), and is as large as possible (`maximal`).
 pub record AppendsReports (accepted : Option BootmemArgsView) (held : FileContents) (old new : Option (List ℕ)) : Type 0 where
-  pub wanted : BootmemArgsView
-  pub given : InputsView
-  pub told : BootedView
-  pub words : accepted ≡ Some wanted
-  pub inputs : read_boot_inputs held wanted ≡ Ok given
-  pub boots : whole_boot given ≡ Ok told
-  pub written : Appends old new (report_list_text wanted.reports told)
-  pub each : AllTouchedOrInOneBlock given told
-  pub others : NoOtherInABlock given told
-  pub whole : BlocksAreWhole given told
-  pub maximal : BlocksAreMaximal given told
+  pub args : BootmemArgsView
+  pub inputs : InputsView
+  pub booted : BootedView
+  pub args_read : accepted ≡ Some args
+  pub inputs_read : read_boot_inputs held args ≡ Ok inputs
+  pub boots : whole_boot inputs ≡ Ok booted
+  pub written : Appends old new (report_list_text args.reports booted)
+  pub each : AllTouchedOrInOneBlock inputs booted
+  pub others : NoOtherInABlock inputs booted
+  pub whole : BlocksAreWhole inputs booted
+  pub maximal : BlocksAreMaximal inputs booted
 
 -- For `bootmem61`: the whole text of the requested reports was appended to the output (`written`).
 -- It describes the one boot that the command line and the files' bytes determine, with the rules of
@@ -35,14 +35,14 @@ pub record AppendsReports (accepted : Option BootmemArgsView) (held : FileConten
 -- other frame is in a block (`others`). Each block is aligned and free, lies in one node and one
 -- zone (`whole`), and is as large as possible (`maximal`).
 pub record AppendsReports61 (accepted : Option ProgramArgsView) (held : FileContents) (old new : Option (List ℕ)) : Type 0 where
-  pub wanted : ProgramArgsView
-  pub given : InputsWithClaims
-  pub told : BootedView
-  pub words : accepted ≡ Some wanted
-  pub inputs : read_boot_inputs61 held wanted ≡ Ok given
-  pub boots : whole_boot_with (linux_extra given.claims) given.inputs ≡ Ok told
-  pub written : Appends old new (report_list_text (reports_of_list61 wanted.list) told)
-  pub each : AllTouchedOrInOneBlock given.inputs told
-  pub others : NoOtherInABlock given.inputs told
-  pub whole : BlocksAreWhole given.inputs told
-  pub maximal : BlocksAreMaximal given.inputs told
+  pub args : ProgramArgsView
+  pub read : InputsWithClaims
+  pub booted : BootedView
+  pub args_read : accepted ≡ Some args
+  pub inputs_read : read_boot_inputs61 held args ≡ Ok read
+  pub boots : whole_boot_with (linux_extra read.claims) read.inputs ≡ Ok booted
+  pub written : Appends old new (report_list_text (reports_of_list61 args.list) booted)
+  pub each : AllTouchedOrInOneBlock read.inputs booted
+  pub others : NoOtherInABlock read.inputs booted
+  pub whole : BlocksAreWhole read.inputs booted
+  pub maximal : BlocksAreMaximal read.inputs booted

@@ -70,7 +70,7 @@ stop_cause_line program (causes.NoTablePlace w room) = no_table_place_line progr
 -- none or the command line is refused (`None`). `named` takes the file names from a command line.
 abbrev pub input_file_text : {W : Type 0} → (W → FileNames) → Option W → Input → List ℕ
 input_file_text named None input = []
-input_file_text named (Some wanted) input = unwrap_or (named wanted input) []
+input_file_text named (Some args) input = unwrap_or (named args input) []
 
 -- the error line for a fault in the file of `input`, as in `bootmem: cmdline: word 3: memmap`
 abbrev pub input_fault_line : List ℕ → Input → Fault → List ℕ
@@ -92,7 +92,7 @@ program_failure_line program named accepted failure =
 
 -- the error line that says why `bootmem` failed; it has file names as on the accepted command line
 abbrev pub bootmem_failure_line : Option BootmemArgsView → Failure InputsReason → List ℕ
-bootmem_failure_line accepted failure = program_failure_line bootmem_name (λ wanted. wanted.named) accepted failure
+bootmem_failure_line accepted failure = program_failure_line bootmem_name (λ args. args.named) accepted failure
 
 -- the error line that says why `bootmem61` failed; it has file names as on the accepted command
 -- line

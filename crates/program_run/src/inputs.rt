@@ -33,20 +33,20 @@ use std::alloc::Global;
 /// - `Memory` if this program is out of memory.
 pub fn read_boot_inputs<F: Files>(
     alloc: Global,
-    wanted: &BootmemArgs<'_>,
+    args: &BootmemArgs<'_>,
     files: &mut F,
 ) -> Result<Inputs, NoInputs>
     ensures fetches { IfSome (F.holds files.old) (λ held.
         Fetches input_place inputs_view result
-        (read_boot_inputs held (bootmem_args_view wanted.now))) }
+        (read_boot_inputs held (bootmem_args_view args.now))) }
     ensures cause { IfErr result (IsFileError (F.faults files.old) (F.faults files.new)
-        (bootmem_args_view wanted.now).named) }
+        (bootmem_args_view args.now).named) }
 {
-    let Ok(begun) = wanted.command_line_inputs(alloc) else {
+    let Ok(begun) = args.command_line_inputs(alloc) else {
         return Err(NoInputs::Memory);
     };
-    let inputs = read_inputs::<F, BootmemArgs<'_>>(alloc, files, wanted, begun)?;
-    match with_made_table(alloc, inputs, wanted.made) {
+    let inputs = read_inputs::<F, BootmemArgs<'_>>(alloc, files, args, begun)?;
+    match with_made_table(alloc, inputs, args.made) {
         Ok(inputs) => Ok(inputs),
         Err(_) => Err(NoInputs::Memory),
     }
@@ -69,19 +69,19 @@ pub fn read_boot_inputs61<F: Files>(
 ) -> Result<(Inputs, Vec<Line>), NoInputs>
     ensures fetches { IfSome (F.holds files.old) (λ held.
         Fetches input_place inputs_with_claims_view result
-        (read_boot_inputs61 held (program_args_view names.now.wanted.now))) }
+        (read_boot_inputs61 held (program_args_view names.now.args.now))) }
     ensures cause { IfErr result (IsFileError (F.faults files.old) (F.faults files.new)
-        (named61 (program_args_view names.now.wanted.now))) }
-    ensures bounds { IfOk result (λ given. HaveBounds given.1.items) }
-    ensures no_sections { IfOk result (λ given. HaveNoSections given.1.items) }
+        (named61 (program_args_view names.now.args.now))) }
+    ensures bounds { IfOk result (λ read. HaveBounds read.1.items) }
+    ensures no_sections { IfOk result (λ read. HaveNoSections read.1.items) }
 {
-    let Ok(begun) = names.wanted.command_line_inputs(alloc) else {
+    let Ok(begun) = names.args.command_line_inputs(alloc) else {
         return Err(NoInputs::Memory);
     };
     let (inputs, claims) = read_inputs_with_claims::<F, NamesWithClaims<'_, '_>>(
         alloc, files, names, begun,
     )?;
-    match with_made_table(alloc, inputs, names.wanted.made) {
+    match with_made_table(alloc, inputs, names.args.made) {
         Ok(inputs) => Ok((inputs, claims)),
         Err(_) => Err(NoInputs::Memory),
     }
@@ -96,8 +96,8 @@ pub fn read_boot_inputs61<F: Files>(
 /// - `Memory`: this program is out of memory; only for more than 128 entries.
 fn with_made_table(alloc: Global, inputs: Inputs, entries: Option<u32>) -> Result<Inputs, Memory>
     requires few { IfSome entries IsEntryCount }
-    ensures made { IfOk result (λ given.
-        inputs_view given ≡ with_made_table entries (inputs_view inputs)) }
+    ensures made { IfOk result (λ changed.
+        inputs_view changed ≡ with_made_table entries (inputs_view inputs)) }
     ensures many { IsErr result → IsSomeAnd entries (λ n. 128 < n) }
 {
     match entries {
@@ -114,8 +114,8 @@ fn with_made_table(alloc: Global, inputs: Inputs, entries: Option<u32>) -> Resul
 /// - `Memory`: this program is out of memory; only for more than 128 entries.
 fn with_made_entries(alloc: Global, inputs: Inputs, count: u32) -> Result<Inputs, Memory>
     requires few { IsEntryCount count }
-    ensures made { IfOk result (λ given.
-        inputs_view given ≡ with_made_table (Some count) (inputs_view inputs)) }
+    ensures made { IfOk result (λ changed.
+        inputs_view changed ≡ with_made_table (Some count) (inputs_view inputs)) }
     ensures many { IsErr result → 128 < count }
 {
     let made = made(alloc, count)?;

@@ -23,19 +23,19 @@ const BOOTMEM: &str = "bootmem";
 /// The name of the program `bootmem61` in its error lines.
 const BOOTMEM61: &str = "bootmem61";
 
-/// Writes the error lines of `bootmem`. `wanted` is the accepted command line, which names the
+/// Writes the error lines of `bootmem`. `args` is the accepted command line, which names the
 /// files, or `None` if it was refused.
 #[derive(Clone, Copy)]
 pub struct BootmemLines<'a, 'w> {
-    pub wanted: Option<&'a BootmemArgs<'w>>,
+    pub args: Option<&'a BootmemArgs<'w>>,
 }
 
 impl<'a, 'w> Lines<Input, Fault, Cause> for BootmemLines<'a, 'w> {
     ghost program_name = { bootmem_name };
 
     ghost file_name = { λ lines input.
-        input_file_text (λ wanted. wanted.named)
-        (option_map (λ wanted. bootmem_args_view wanted.now) lines.wanted) input };
+        input_file_text (λ args. args.named)
+        (option_map (λ args. bootmem_args_view args.now) lines.args) input };
 
     ghost fault_line = { input_fault_line bootmem_name };
 
@@ -46,8 +46,8 @@ impl<'a, 'w> Lines<Input, Fault, Cause> for BootmemLines<'a, 'w> {
     }
 
     fn file(&self, input: Input) -> &str {
-        match self.wanted {
-            Some(wanted) => wanted.of(input).unwrap_or(""),
+        match self.args {
+            Some(args) => args.of(input).unwrap_or(""),
             None => "",
         }
     }
@@ -61,11 +61,11 @@ impl<'a, 'w> Lines<Input, Fault, Cause> for BootmemLines<'a, 'w> {
     }
 }
 
-/// Writes the error lines of `bootmem61`. `wanted` has the names of the files, as the accepted
+/// Writes the error lines of `bootmem61`. `args` has the names of the files, as the accepted
 /// command line gives them. It is `None` if the command line was refused.
 #[derive(Clone, Copy)]
 pub struct Bootmem61Lines<'a, 'w> {
-    pub wanted: Option<&'a NamesWithClaims<'a, 'w>>,
+    pub args: Option<&'a NamesWithClaims<'a, 'w>>,
 }
 
 impl<'a, 'w> Lines<Input, Fault, Cause> for Bootmem61Lines<'a, 'w> {
@@ -73,7 +73,7 @@ impl<'a, 'w> Lines<Input, Fault, Cause> for Bootmem61Lines<'a, 'w> {
 
     ghost file_name = { λ lines input.
         input_file_text named61
-        (option_map (λ names. program_args_view names.now.wanted.now) lines.wanted) input };
+        (option_map (λ names. program_args_view names.now.args.now) lines.args) input };
 
     ghost fault_line = { input_fault_line bootmem61_name };
 
@@ -84,7 +84,7 @@ impl<'a, 'w> Lines<Input, Fault, Cause> for Bootmem61Lines<'a, 'w> {
     }
 
     fn file(&self, input: Input) -> &str {
-        match self.wanted {
+        match self.args {
             Some(names) => names.of(input).unwrap_or(""),
             None => "",
         }

@@ -170,24 +170,18 @@ fn run_to_end<F: Files, S: Sink, E: Sink>(
     ensures unfetched { IsNone (read_args (bytes_of_words words.now)) → files.new ≡ files.old }
     ensures unput { IsNone (read_args (bytes_of_words words.now)) → out.new ≡ out.old }
     ensures output { WritingHasCause S.Sink out.old out.new result }
-    ensures told { PutsEndLine E.Sink
+    ensures end_line { PutsEndLine E.Sink
         (bootmem_failure_line (read_args (bytes_of_words words.now))) err.old err.new result }
 {
     match read_args(alloc, words) {
-        Ok(wanted) => {
-            let end = write_reports(alloc, &wanted, files, out);
-            put_end_line(
-                err,
-                &BootmemLines {
-                    wanted: Some(&wanted),
-                },
-                end,
-            );
+        Ok(args) => {
+            let end = write_reports(alloc, &args, files, out);
+            put_end_line(err, &BootmemLines { args: Some(&args) }, end);
             end
         }
         Err(error) => {
             let end = Err(Failure::NoResult(reason_by_args_error(error)));
-            put_end_line(err, &BootmemLines { wanted: None }, end);
+            put_end_line(err, &BootmemLines { args: None }, end);
             end
         }
     }
@@ -213,18 +207,18 @@ pub(crate) fn reason_by_args_error(error: ArgsError) -> NoReport
 /// - `Output`: `out` refused the text, or ran out of memory for it; the first part may be written.
 fn write_reports<F: Files, S: Sink>(
     alloc: Global,
-    wanted: &BootmemArgs<'_>,
+    args: &BootmemArgs<'_>,
     files: &mut F,
     out: &mut S,
 ) -> Result<u8, Failure>
     ensures writes { IfSome (F.holds files.old) (λ held.
         WritesOutcome bootmem (S.written out.old) (S.written out.new) result
-        (bootmem_outcome (Some (bootmem_args_view wanted.now)) held)) }
+        (bootmem_outcome (Some (bootmem_args_view args.now)) held)) }
     ensures cause { EndHasCause bootmem (F.faults files.old) (F.faults files.new)
-        (Some (bootmem_args_view wanted.now)) result }
+        (Some (bootmem_args_view args.now)) result }
     ensures output { WritingHasCause S.Sink out.old out.new result }
 {
-    let texts = make_report_texts(alloc, wanted, files)?;
+    let texts = make_report_texts(alloc, args, files)?;
     put_all(out, &texts)?;
     Ok(0)
 }
@@ -237,19 +231,19 @@ fn write_reports<F: Files, S: Sink>(
 /// The reason why there is no report, or out of memory.
 fn make_report_texts<F: Files>(
     alloc: Global,
-    wanted: &BootmemArgs<'_>,
+    args: &BootmemArgs<'_>,
     files: &mut F,
 ) -> Result<Vec<Vec<u8>>, NoReport>
     ensures fetches { IfSome (F.holds files.old) (λ held.
         Fetches input_place (λ bytes_of_words.
         flat_map (λ text. text.items) bytes_of_words.items) result
-        (bootmem_outcome (Some (bootmem_args_view wanted.now)) held)) }
+        (bootmem_outcome (Some (bootmem_args_view args.now)) held)) }
     ensures cause { IfErr result
         (ErrorHasCause bootmem (F.faults files.old) (F.faults files.new)
-        (Some (bootmem_args_view wanted.now))) }
+        (Some (bootmem_args_view args.now))) }
 {
-    let inputs = read_boot_inputs(alloc, wanted, files)?;
-    reports_on_boot(alloc, inputs, wanted.list)
+    let inputs = read_boot_inputs(alloc, args, files)?;
+    reports_on_boot(alloc, inputs, args.list)
 }
 
 /// Boots with these inputs and returns the texts of the reports whose names are in `list`,

@@ -160,25 +160,19 @@ fn run61_to_end<F: Files, S: Sink, E: Sink>(
     ensures unfetched { IsNone (read_args61 (bytes_of_words words.now)) → files.new ≡ files.old }
     ensures unput { IsNone (read_args61 (bytes_of_words words.now)) → out.new ≡ out.old }
     ensures output { WritingHasCause S.Sink out.old out.new result }
-    ensures told { PutsEndLine E.Sink
+    ensures end_line { PutsEndLine E.Sink
         (bootmem61_failure_line (read_args61 (bytes_of_words words.now))) err.old err.new result }
 {
     match read_args61(alloc, words) {
-        Ok(wanted) => {
-            let names = NamesWithClaims { wanted: &wanted };
+        Ok(args) => {
+            let names = NamesWithClaims { args: &args };
             let end = write_reports61(alloc, &names, files, out);
-            put_end_line(
-                err,
-                &Bootmem61Lines {
-                    wanted: Some(&names),
-                },
-                end,
-            );
+            put_end_line(err, &Bootmem61Lines { args: Some(&names) }, end);
             end
         }
         Err(error) => {
             let end = Err(Failure::NoResult(reason_by_args_error(error)));
-            put_end_line(err, &Bootmem61Lines { wanted: None }, end);
+            put_end_line(err, &Bootmem61Lines { args: None }, end);
             end
         }
     }
@@ -199,9 +193,9 @@ fn write_reports61<F: Files, S: Sink>(
 ) -> Result<u8, Failure>
     ensures writes { IfSome (F.holds files.old) (λ held.
         WritesOutcome bootmem61 (S.written out.old) (S.written out.new) result
-        (bootmem61_outcome (Some (program_args_view names.now.wanted.now)) held)) }
+        (bootmem61_outcome (Some (program_args_view names.now.args.now)) held)) }
     ensures cause { EndHasCause bootmem61 (F.faults files.old) (F.faults files.new)
-        (Some (program_args_view names.now.wanted.now)) result }
+        (Some (program_args_view names.now.args.now)) result }
     ensures output { WritingHasCause S.Sink out.old out.new result }
 {
     let texts = make_texts61(alloc, names, files)?;
@@ -223,13 +217,13 @@ fn make_texts61<F: Files>(
     ensures fetches { IfSome (F.holds files.old) (λ held.
         Fetches input_place (λ texts.
         flat_map (λ text. text.items) texts.items) result
-        (bootmem61_outcome (Some (program_args_view names.now.wanted.now)) held)) }
+        (bootmem61_outcome (Some (program_args_view names.now.args.now)) held)) }
     ensures cause { IfErr result
         (ErrorHasCause bootmem61 (F.faults files.old) (F.faults files.new)
-        (Some (program_args_view names.now.wanted.now))) }
+        (Some (program_args_view names.now.args.now))) }
 {
     let (inputs, claims) = read_boot_inputs61(alloc, names, files)?;
-    reports_on_boot61(alloc, inputs, claims, names.wanted.list)
+    reports_on_boot61(alloc, inputs, claims, names.args.list)
 }
 
 /// Boots with these inputs and early claims by the rules of Linux 6.1. Returns the texts of the

@@ -11,17 +11,17 @@ use Rattle.audit_soundness.proofs.BootedLaws.{can_be_told}
 use Rattle.audit_soundness.proofs.SavedLaws.{saved_conserved}
 use Rattle.audit_soundness.proofs.booted.booted_reports_are_sound.Goals as goal
 
-pub returns-clause-told : goal.returns-clause-told
-returns-clause-told g c =
-    can_be_told g.given (booted_view c.args.booted.now) c.requires
+pub returns-clause-printable : goal.returns-clause-printable
+returns-clause-printable g c =
+    can_be_told g.inputs (booted_view c.args.booted.now) c.requires
     (subst (λ (rs : List (RunOf ℕ)). All RunEndsInSpace rs) c.deref.ensures.value c.map_runs_end_in_space.ensures)
     (subst (λ (rs : List (RunOf Owner)). IsRunsOf (owner_of c.args.booted.now.journal.items) rs) c.owners.ensures.list
     c.owners.ensures.runs)
     (subst (λ (rs : List (RunOf Owner)). All IsBoundedOwnerRun rs) c.owners.ensures.list c.owner_runs_are_bounded.ensures)
 
 pub returns-clause-conserved : goal.returns-clause-conserved
-returns-clause-conserved g c = λ held wanted is.
-    saved_conserved g.given (booted_view c.args.booted.now) c.requires (returns-clause-told g c) held wanted is
+returns-clause-conserved g c = λ held args is.
+    saved_conserved g.inputs (booted_view c.args.booted.now) c.requires (returns-clause-printable g c) held args is
 
 pub returns-clause-sound : goal.returns-clause-sound
-returns-clause-sound g c = λ held wanted is. conserved_sound (Some wanted) held (returns-clause-conserved g c held wanted is)
+returns-clause-sound g c = λ held args is. conserved_sound (Some args) held (returns-clause-conserved g c held args is)

@@ -6,6 +6,6 @@ use Rattle.audit_soundness.proofs.laws.saved_reports_are_sound.Goals as goal
 pub returns : goal.returns
 returns c = record {
   conserved = saved_conserved;
-  sound = λ given told ends can held wanted is.
-      conserved_sound (Some wanted) held (saved_conserved given told ends can held wanted is);
+  sound = λ inputs booted ends can held args is.
+      conserved_sound (Some args) held (saved_conserved inputs booted ends can held args is);
 }

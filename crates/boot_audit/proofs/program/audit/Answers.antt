@@ -24,8 +24,8 @@ returns-clause-conserved g c =
 pub returns-clause-line : goal.returns-clause-line
 returns-clause-line g c =
     let end = c.write_verdict-end in
-    let wanted = option_map audit_args_view c.read_audit_args-names.result in
+    let args = option_map audit_args_view c.read_audit_args-names.result in
     rw (← c.read_audit_args-names.ensures)
-    (failure_status_has_line bootaudit g.E.Sink (audit_failure_line wanted) (g.F.Files.faults c.args.files.now)
-    (g.F.Files.faults end.new.files) wanted _ _ _ _
-    end.result _ c.exit_status.ensures end.ensures.cause c.put_end_line.ensures _ (audit_outcome wanted) end.ensures.writes)
+    (failure_status_has_line bootaudit g.E.Sink (audit_failure_line args) (g.F.Files.faults c.args.files.now)
+    (g.F.Files.faults end.new.files) args _ _ _ _
+    end.result _ c.exit_status.ensures end.ensures.cause c.put_end_line.ensures _ (audit_outcome args) end.ensures.writes)

@@ -4,4 +4,4 @@ use Rattle.boot_model.proofs.laws.boot_has_own_profile.Goals as goal
 
 pub returns : goal.returns
 unfolding boot
-returns c = record { made = λ given. refl; report = λ given. refl }
+returns c = record { made = λ inputs. refl; report = λ inputs. refl }

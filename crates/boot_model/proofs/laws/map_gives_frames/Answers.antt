@@ -6,6 +6,6 @@ pub returns : goal.returns
 unfolding boot
 returns c = record {
   each = usable_lies no_extra;
-  some = λ given made ends. (accepted_map_has_usable_frames no_extra given made ends).0;
-  few = λ given made ends. (accepted_map_has_usable_frames no_extra given made ends).1;
+  some = λ inputs made ends. (accepted_map_has_usable_frames no_extra inputs made ends).0;
+  few = λ inputs made ends. (accepted_map_has_usable_frames no_extra inputs made ends).1;
 }

@@ -50,9 +50,9 @@ hand_over-requires-clause-whole c = memory-whole (stood (goal.at.hand_over-requi
 pub hand_over-requires-clause-reserved : goal.hand_over-requires-clause-reserved
 hand_over-requires-clause-reserved c = reserved-records (stood (goal.at.hand_over-requires-clause-reserved c).After-into_parts-store)
 
-pub returns-clause-told : goal.returns-clause-told
-returns-clause-told c = λ ids fills. (
-    let stands = stood (goal.at.returns-clause-told c).After-into_parts-store in
+pub returns-clause-view : goal.returns-clause-view
+returns-clause-view c = λ ids fills. (
+    let stands = stood (goal.at.returns-clause-view c).After-into_parts-store in
     let heads = c.into_parts-store.ensures.heads in
     let memory = c.requires.tables which.Memory in
     let reserved = c.requires.tables which.Reserved in
@@ -73,7 +73,7 @@ returns-clause-reserved c =
     record {
       table = table_from_items which.Reserved m.kernel m.journal.items;
       stands = c.into_parts-store.ensures.reserved;
-      told = ap (λ (h : Heads). h.reserved) c.into_parts-store.ensures.heads ∙ ap head_of (c.requires.tables which.Reserved);
+      head_is = ap (λ (h : Heads). h.reserved) c.into_parts-store.ensures.heads ∙ ap head_of (c.requires.tables which.Reserved);
       records = ap (λ (j : JournalView). records_of which.Reserved j.items) (sym c.into_parts-store.ensures.journal);
     }
 

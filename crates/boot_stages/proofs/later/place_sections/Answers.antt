@@ -26,11 +26,11 @@ listed c =
 pub present-requires : goal.present-requires
 present-requires c =
     let items : List Item = c.args.memblock.now.journal.items in
-    let told : All IsWholeFramesWithNode (records_of which.Memory items) =
+    let whole : All IsWholeFramesWithNode (records_of which.Memory items) =
     noded-records (memory_of items) (records_of which.Memory items) (noded-runs (2 ^ 52) items (omega arith) c.requires.noded)
     c.requires.noded in
     subst (λ (rs : List (RunOf LabelView)). All IsWholeFramesWithNode rs)
-    (sym (ap (λ (t : TableView). t.records) c.tables.ensures.memory)) told
+    (sym (ap (λ (t : TableView). t.records) c.tables.ensures.memory)) whole
 
 pub returns-in_err-sections-clause-ends : goal.returns-in_err-sections-clause-ends
 returns-in_err-sections-clause-ends c =

@@ -20,25 +20,25 @@ own_extra : (c : After-without_claims-extra) → extra_view c.without_claims-ext
 own_extra c =
     c.without_claims-extra.ensures ∙ ap (λ (p : Profile). let e : ExtraView = record { profile = p; claims = [] } in e) c.own.ensures
 
-own_report : (extra : ExtraView) (given : InputsView) (result : Result Booted Stop) → extra ≡ no_extra
-    → Answers stops.Memory booted_view result (map_error stop_of (whole_boot_with extra given))
-    → Answers stops.Memory booted_view result (map_error stop_of (whole_boot given))
+own_report : (extra : ExtraView) (inputs : InputsView) (result : Result Booted Stop) → extra ≡ no_extra
+    → Answers stops.Memory booted_view result (map_error stop_of (whole_boot_with extra inputs))
+    → Answers stops.Memory booted_view result (map_error stop_of (whole_boot inputs))
 unfolding boot
-own_report extra given result is answers =
-    subst (λ (e : ExtraView). Answers stops.Memory booted_view result (map_error stop_of (whole_boot_with e given))) is answers
+own_report extra inputs result is answers =
+    subst (λ (e : ExtraView). Answers stops.Memory booted_view result (map_error stop_of (whole_boot_with e inputs))) is answers
 
 -- what the bytes of a boot's result are
 abbrev HasBytes : ExtraView → InputsView → RangeView → Booted → Type 0
-HasBytes extra given kernel booted =
-    (made : BootSoFar) → boot_with extra given ≡ Ok made → (x : ℕ)
+HasBytes extra inputs kernel booted =
+    (made : BootSoFar) → boot_with extra inputs ≡ Ok made → (x : ℕ)
     → byte_of booted.store x ≡ byte_from_history kernel made.items made.fills x
 
-own_bytes : (extra : ExtraView) (given : InputsView) (kernel : RangeView) (result : Result Booted Stop) → extra ≡ no_extra
-    → IfOk result (HasBytes extra given kernel)
-    → IfOk result (λ booted. (made : BootSoFar) → boot given ≡ Ok made → (x : ℕ) →
+own_bytes : (extra : ExtraView) (inputs : InputsView) (kernel : RangeView) (result : Result Booted Stop) → extra ≡ no_extra
+    → IfOk result (HasBytes extra inputs kernel)
+    → IfOk result (λ booted. (made : BootSoFar) → boot inputs ≡ Ok made → (x : ℕ) →
     byte_of booted.store x ≡ byte_from_history kernel made.items made.fills x)
 unfolding boot
-own_bytes extra given kernel result is bytes = subst (λ (e : ExtraView). IfOk result (HasBytes e given kernel)) is bytes
+own_bytes extra inputs kernel result is bytes = subst (λ (e : ExtraView). IfOk result (HasBytes e inputs kernel)) is bytes
 
 pub returns-clause-boots : goal.returns-clause-boots
 returns-clause-boots c = own_report _ _ _ (own_extra (goal.at.returns-clause-boots c).After-without_claims-extra) c.boot_with.ensures.boots

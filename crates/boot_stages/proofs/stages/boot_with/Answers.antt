@@ -33,16 +33,17 @@ use Rattle.boot_stages.proofs.stages.boot_with.Goals.{In_ok-later}
 pub returns-in_err-map-clause-boots : goal.returns-in_err-map-clause-boots
 returns-in_err-map-clause-boots c =
     let extra : ExtraView = extra_view c.args.extra.now in
-    let given : InputsView = inputs_view c.args.inputs in
-    boot_stop_is_reported _ extra given _ c.in_err-map.field-0.0 (exit _ _ c.from_residual.ensures.1)
-    (boot_stops extra given c.in_err-map.field-0.0 c.in_err-map.ensures.answers)
+    let inputs : InputsView = inputs_view c.args.inputs in
+    boot_stop_is_reported _ extra inputs _ c.in_err-map.field-0.0 (exit _ _ c.from_residual.ensures.1)
+    (boot_stops extra inputs c.in_err-map.field-0.0 c.in_err-map.ensures.answers)
 
 -- the map that the boot goes on with, as the stages get it
 pub run_stages-requires-clause-judged : goal.run_stages-requires-clause-judged
 run_stages-requires-clause-judged c =
     let extra : ExtraView = extra_view c.args.extra.now in
-    let given : InputsView = inputs_view c.args.inputs in
-    rw c.deref.ensures.value (ok_without_error_change stop_of (judge_map given) (made_of given c.in_ok-map.map) c.in_ok-map.ensures.answers)
+    let inputs : InputsView = inputs_view c.args.inputs in
+    rw c.deref.ensures.value
+    (ok_without_error_change stop_of (judge_map inputs) (made_of inputs c.in_ok-map.map) c.in_ok-map.ensures.answers)
 
 pub run_stages-requires-clause-bytes : goal.run_stages-requires-clause-bytes
 run_stages-requires-clause-bytes c =
@@ -57,29 +58,29 @@ run_stages-requires-clause-bytes c =
 pub returns-in_err-later-clause-boots : goal.returns-in_err-later-clause-boots
 returns-in_err-later-clause-boots c =
     let extra : ExtraView = extra_view c.args.extra.now in
-    let given : InputsView = inputs_view c.args.inputs in
-    let left = boot_is_later_stages extra given (made_of given c.in_ok-map.map) c.in_ok-map.ensures.answers in
-    boot_stop_is_reported _ extra given _ c.in_err-later.field-0.0 (exit _ _ c.from_residual-in_err-later.ensures.1)
+    let inputs : InputsView = inputs_view c.args.inputs in
+    let left = boot_is_later_stages extra inputs (made_of inputs c.in_ok-map.map) c.in_ok-map.ensures.answers in
+    boot_stop_is_reported _ extra inputs _ c.in_err-later.field-0.0 (exit _ _ c.from_residual-in_err-later.ensures.1)
     (λ other. ap (map_error stop_of) left ∙ (rw c.deref.ensures.value at c.in_err-later.ensures.stopped) other)
 
 -- what is known after all stages have run
-record Made (extra : ExtraView) (given : InputsView) (map : List (RunOf ℕ)) (m : Memblock) (later : LaterResults) : Type 0 where
-  run : StagesEndWith extra given map m later
-  boots : boot_with extra given ≡ Ok (made_after_stages given map m later run.ids run.fills)
+record Made (extra : ExtraView) (inputs : InputsView) (map : List (RunOf ℕ)) (m : Memblock) (later : LaterResults) : Type 0 where
+  run : StagesEndWith extra inputs map m later
+  boots : boot_with extra inputs ≡ Ok (made_after_stages inputs map m later run.ids run.fills)
   noded : IsMemoryWithNodes (2 ^ 52) (memory_of m.journal.items)
 
 made : (c : In_ok-later) → Made (extra_view c.args.extra.now)
     (inputs_view c.args.inputs) c.in_ok-map.map.items c.run_stages.new.memblock c.in_ok-later.later
 made c =
     let extra : ExtraView = extra_view c.args.extra.now in
-    let given : InputsView = inputs_view c.args.inputs in
-    let run : StagesEndWith extra given c.in_ok-map.map.items c.run_stages.new.memblock c.in_ok-later.later =
+    let inputs : InputsView = inputs_view c.args.inputs in
+    let run : StagesEndWith extra inputs c.in_ok-map.map.items c.run_stages.new.memblock c.in_ok-later.later =
     rw c.deref.ensures.value at c.in_ok-later.ensures.run in
-    let boots = boot_is_later_stages extra given (made_of given c.in_ok-map.map) c.in_ok-map.ensures.answers ∙ run.come in
+    let boots = boot_is_later_stages extra inputs (made_of inputs c.in_ok-map.map) c.in_ok-map.ensures.answers ∙ run.come in
     record {
       run = run;
       boots = boots;
-      noded = noded-within (reach given) (2 ^ 52) _ (noded_told extra given _ boots) (reach-small given);
+      noded = noded-within (reach inputs) (2 ^ 52) _ (noded_told extra inputs _ boots) (reach-small inputs);
     }
 
 pub hand_over_memory-requires-clause-noded : goal.hand_over_memory-requires-clause-noded
@@ -102,23 +103,23 @@ hand_over_memory-requires-clause-within c =
 pub returns-clause-boots : goal.returns-clause-boots
 returns-clause-boots c =
     let extra : ExtraView = extra_view c.args.extra.now in
-    let given : InputsView = inputs_view c.args.inputs in
+    let inputs : InputsView = inputs_view c.args.inputs in
     let known = made (goal.at.returns-clause-boots c).In_ok-later in
-    ap (map_error stop_of) (boot_told extra given _ known.boots)
-    ∙ ap (λ (t : BootedView). Ok t) (sym (c.in_ok-hand_over_memory.ensures.told known.run.ids known.run.fills))
+    ap (map_error stop_of) (boot_told extra inputs _ known.boots)
+    ∙ ap (λ (t : BootedView). Ok t) (sym (c.in_ok-hand_over_memory.ensures.view known.run.ids known.run.fills))
 
 pub returns-clause-bytes : goal.returns-clause-bytes
 returns-clause-bytes c = λ final ends x. (
     let extra : ExtraView = extra_view c.args.extra.now in
-    let given : InputsView = inputs_view c.args.inputs in
+    let inputs : InputsView = inputs_view c.args.inputs in
     let last : Memblock = c.run_stages.new.memblock in
     let known = made (goal.at.returns-clause-bytes c).In_ok-later in
-    let behind : BootSoFar = made_after_stages given c.in_ok-map.map.items last c.in_ok-later.later known.run.ids known.run.fills in
-    let told : Ok behind ≡ Ok final = sym known.boots ∙ ends in
+    let behind : BootSoFar = made_after_stages inputs c.in_ok-map.map.items last c.in_ok-later.later known.run.ids known.run.fills in
+    let both : Ok behind ≡ Ok final = sym known.boots ∙ ends in
     let is : behind ≡ final = cc in
     ap (λ (s : List ExtentView). byte_of s x) c.in_ok-hand_over_memory.ensures.store ∙ known.run.holds.each x
     ∙ ap (λ (k : RangeView). byte_from_history k last.journal.items known.run.fills x) known.run.kernel
-    ∙ ap (λ (n : BootSoFar). byte_from_history given.kernel n.items n.fills x) is)
+    ∙ ap (λ (n : BootSoFar). byte_from_history inputs.kernel n.items n.fills x) is)
 
 pub returns-clause-each : goal.returns-clause-each
 returns-clause-each c = all_touched_or_in_one (extra_view c.args.extra.now) (inputs_view c.args.inputs) _

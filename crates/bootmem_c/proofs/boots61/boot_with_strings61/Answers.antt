@@ -15,5 +15,5 @@ returns-in-Ok-clause-fails c = rw (are_accepted _ _ c.in-Ok.ensures) c.boot_with
 
 pub returns-in-Err-Usage-clause-fails : goal.returns-in-Err-Usage-clause-fails
 returns-in-Err-Usage-clause-fails c =
-    words_fit (λ held wanted. bootmem61_outcome (Some wanted) held)
+    words_fit (λ held args. bootmem61_outcome (Some args) held)
     (Some (file_bytes (lent_files c.args.files.now))) _ words.Usage (rw c.in-Err-Usage.field-0-is at c.in-Err-Usage.ensures)

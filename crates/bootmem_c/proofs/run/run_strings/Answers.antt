@@ -15,7 +15,7 @@ returns-in-Own-clause-status c =
     let asked = read_args (bytes_of_words c.args.words.now) in
     let held = file_bytes c.new-lent.result.files in
     rw (c.in-Own.is, ← c.new-lent.ensures.files)
-    (ran_status bootmem_name (λ wanted. wanted.named) c.new-lent.result c.run.new.files asked (bootmem_outcome asked held)
+    (ran_status bootmem_name (λ args. args.named) c.new-lent.result c.run.new.files asked (bootmem_outcome asked held)
     (bootmem_names_unread held asked (names_no_claims (bytes_of_words c.args.words.now))) _ _ c.run.result c.run.ensures.unwritten
     c.run.ensures.written c.run.ensures.line)
 
@@ -36,7 +36,7 @@ returns-in-Own-clause-line c = λ some other short.
     let asked = read_args (bytes_of_words c.args.words.now) in
     let held = file_bytes c.new-lent.result.files in
     rw (c.in-Own.is, ← c.new-lent.ensures.files)
-    (ran_line bootmem_name (λ wanted. wanted.named) c.new-lent.result c.run.new.files asked (bootmem_outcome asked held)
+    (ran_line bootmem_name (λ args. args.named) c.new-lent.result c.run.new.files asked (bootmem_outcome asked held)
     (bootmem_names_unread held asked (names_no_claims (bytes_of_words c.args.words.now))) c.args.line.now c.run.new.err c.run.result
     c.run.ensures.unwritten c.requires.no_line c.requires.not_short c.run.ensures.line some other short)
 

@@ -13,6 +13,6 @@ returns-clause-memory c =
       booted_view c.in_ok-booted.booted,
       c.in_ok-booted.ensures.boots,
       c.in_ok-memory_values.ensures
-          ∙ ap (λ (h : Head). regions_at (byte_of c.in_ok-booted.booted.store) h.place h.count) stands.told
+          ∙ ap (λ (h : Head). regions_at (byte_of c.in_ok-booted.booted.store) h.place h.count) stands.head_is
           ∙ standing_values stands.table c.in_ok-booted.booted.store stands.stands ∙ ap (map record_value) stands.records,
     )

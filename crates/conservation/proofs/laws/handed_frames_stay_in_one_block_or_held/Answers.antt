@@ -5,8 +5,8 @@ use Rattle.conservation.proofs.laws.handed_frames_stay_in_one_block_or_held.Goal
 
 pub returns : goal.returns
 returns c = record {
-  each = λ given t ends. all_in_one_or_held no_extra given t (own_told t given ends);
-  others = λ given t ends. no_other_in_one_or_held no_extra given t (own_told t given ends);
+  each = λ inputs t ends. all_in_one_or_held no_extra inputs t (own_told t inputs ends);
+  others = λ inputs t ends. no_other_in_one_or_held no_extra inputs t (own_told t inputs ends);
   each_by_profile = all_in_one_or_held;
   others_by_profile = no_other_in_one_or_held;
 }

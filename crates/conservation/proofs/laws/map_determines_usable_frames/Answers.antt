@@ -5,6 +5,6 @@ use Rattle.conservation.proofs.laws.map_determines_usable_frames.Goals as goal
 
 pub returns : goal.returns
 returns c = record {
-  own = λ given t frame ends. usable_mapped no_extra given t frame (own_told t given ends);
+  own = λ inputs t frame ends. usable_mapped no_extra inputs t frame (own_told t inputs ends);
   by_profile = usable_mapped;
 }

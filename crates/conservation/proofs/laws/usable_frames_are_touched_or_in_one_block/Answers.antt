@@ -5,4 +5,4 @@ use Rattle.conservation.proofs.laws.usable_frames_are_touched_or_in_one_block.Go
 
 pub returns : goal.returns
 returns c =
-    record { own = λ given t ends. all_touched_or_in_one no_extra given t (own_told t given ends); by_profile = all_touched_or_in_one }
+    record { own = λ inputs t ends. all_touched_or_in_one no_extra inputs t (own_told t inputs ends); by_profile = all_touched_or_in_one }

@@ -10,14 +10,14 @@ use Rattle.program_run.proofs.inputs.read_boot_inputs.Goals as goal
 
 pub returns-in_err-inputs-clause-fetches : goal.returns-in_err-inputs-clause-fetches
 returns-in_err-inputs-clause-fetches g c =
-    let wanted : BootmemArgsView = bootmem_args_view c.args.wanted.now in
+    let args : BootmemArgsView = bootmem_args_view c.args.args.now in
     given_none inputs_view c.from_residual.result c.in_err-inputs.field-0.0 (g.F.Files.holds c.args.files.now)
-    (λ held. inputs_of held wanted.named wanted.begun) (with_made_table wanted.made) c.from_residual.ensures.1
+    (λ held. inputs_of held args.named args.begun) (with_made_table args.made) c.from_residual.ensures.1
     (rw c.in-Ok.ensures at c.in_err-inputs.ensures.fetches)
 
 pub returns-in-Ok-with_made_table-clause-fetches : goal.returns-in-Ok-with_made_table-clause-fetches
 returns-in-Ok-with_made_table-clause-fetches g c =
-    let wanted : BootmemArgsView = bootmem_args_view c.args.wanted.now in
-    given_some (g.F.Files.holds c.args.files.now) (λ held. inputs_of held wanted.named wanted.begun) (with_made_table wanted.made)
+    let args : BootmemArgsView = bootmem_args_view c.args.args.now in
+    given_some (g.F.Files.holds c.args.files.now) (λ held. inputs_of held args.named args.begun) (with_made_table args.made)
     (inputs_view c.in_ok-inputs.inputs) (inputs_view c.in-Ok-with_made_table.inputs) c.in-Ok-with_made_table.ensures.made
     (rw c.in-Ok.ensures at c.in_ok-inputs.ensures.fetches)

@@ -12,17 +12,17 @@ use Rattle.program_run.proofs.inputs.read_boot_inputs61.Goals as goal
 
 pub returns-in_err-inputs-clause-fetches : goal.returns-in_err-inputs-clause-fetches
 returns-in_err-inputs-clause-fetches g c =
-    let wanted : ProgramArgsView = program_args_view c.args.names.now.wanted.now in
+    let args : ProgramArgsView = program_args_view c.args.names.now.args.now in
     given_none inputs_with_claims_view c.from_residual.result c.in_err-inputs.field-0.0 (g.F.Files.holds c.args.files.now)
-    (λ held. inputs_with_claims_of held (named61 wanted) wanted.begun) (with_made_table61 wanted.made) c.from_residual.ensures.1
+    (λ held. inputs_with_claims_of held (named61 args) args.begun) (with_made_table61 args.made) c.from_residual.ensures.1
     (rw c.in-Ok.ensures at c.in_err-inputs.ensures.fetches)
 
 pub returns-in-Ok-with_made_table-clause-fetches : goal.returns-in-Ok-with_made_table-clause-fetches
 returns-in-Ok-with_made_table-clause-fetches g c =
-    let wanted : ProgramArgsView = program_args_view c.args.names.now.wanted.now in
+    let args : ProgramArgsView = program_args_view c.args.names.now.args.now in
     let claims = c.in_ok-inputs.claims.items in
-    given_some (g.F.Files.holds c.args.files.now) (λ held. inputs_with_claims_of held (named61 wanted) wanted.begun)
-    (with_made_table61 wanted.made) (with_claims (inputs_view c.in_ok-inputs.inputs) claims)
+    given_some (g.F.Files.holds c.args.files.now) (λ held. inputs_with_claims_of held (named61 args) args.begun)
+    (with_made_table61 args.made) (with_claims (inputs_view c.in_ok-inputs.inputs) claims)
     (with_claims (inputs_view c.in-Ok-with_made_table.inputs) claims)
-    (ap (λ (given : InputsView). with_claims given claims) c.in-Ok-with_made_table.ensures.made)
+    (ap (λ (read : InputsView). with_claims read claims) c.in-Ok-with_made_table.ensures.made)
     (rw c.in-Ok.ensures at c.in_ok-inputs.ensures.fetches)

@@ -10,11 +10,11 @@ use Rattle.program_run.proofs.program.make_report_texts.Goals as goal
 
 pub returns-in_err-inputs-clause-fetches : goal.returns-in_err-inputs-clause-fetches
 returns-in_err-inputs-clause-fetches g c =
-    let wanted : BootmemArgsView = bootmem_args_view c.args.wanted.now in
-    fetches_none _ c.from_residual.result (g.F.Files.holds c.args.files.now) (λ held. read_boot_inputs held wanted)
-    whole_boot (report_list_text wanted.reports) c.in_err-inputs.field-0.0 c.from_residual.ensures.1 c.in_err-inputs.ensures.fetches
+    let args : BootmemArgsView = bootmem_args_view c.args.args.now in
+    fetches_none _ c.from_residual.result (g.F.Files.holds c.args.files.now) (λ held. read_boot_inputs held args)
+    whole_boot (report_list_text args.reports) c.in_err-inputs.field-0.0 c.from_residual.ensures.1 c.in_err-inputs.ensures.fetches
 
 pub returns-clause-cause : goal.returns-clause-cause
 returns-clause-cause g c =
     c.reports_on_boot.ensures.cause (g.F.Files.faults c.args.files.now) (g.F.Files.faults c.read_boot_inputs.new.files)
-    (bootmem_args_view c.args.wanted.now)
+    (bootmem_args_view c.args.args.now)

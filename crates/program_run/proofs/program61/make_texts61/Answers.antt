@@ -10,12 +10,12 @@ use Rattle.program_run.proofs.program61.make_texts61.Goals as goal
 
 pub returns-in_err-inputs-clause-fetches : goal.returns-in_err-inputs-clause-fetches
 returns-in_err-inputs-clause-fetches g c =
-    let wanted : ProgramArgsView = program_args_view c.args.names.now.wanted.now in
-    fetches_none _ c.from_residual.result (g.F.Files.holds c.args.files.now) (λ held. read_boot_inputs61 held wanted)
-    (λ given. whole_boot_with (linux_extra given.claims) given.inputs) (report_list_text (reports_of_list61 wanted.list))
+    let args : ProgramArgsView = program_args_view c.args.names.now.args.now in
+    fetches_none _ c.from_residual.result (g.F.Files.holds c.args.files.now) (λ held. read_boot_inputs61 held args)
+    (λ read. whole_boot_with (linux_extra read.claims) read.inputs) (report_list_text (reports_of_list61 args.list))
     c.in_err-inputs.field-0.0 c.from_residual.ensures.1 c.in_err-inputs.ensures.fetches
 
 pub returns-clause-cause : goal.returns-clause-cause
 returns-clause-cause g c =
     c.reports_on_boot61.ensures.cause (g.F.Files.faults c.args.files.now) (g.F.Files.faults c.read_boot_inputs61.new.files)
-    (program_args_view c.args.names.now.wanted.now)
+    (program_args_view c.args.names.now.args.now)

@@ -11,22 +11,22 @@ use Rattle.program_run.proofs.program61.run61.Goals as goal
 pub returns-clause-headline : goal.returns-clause-headline
 returns-clause-headline g c =
     let end = c.run61_to_end-end in
-    let wanted = read_args61 (bytes_of_words c.args.words.now) in
+    let args = read_args61 (bytes_of_words c.args.words.now) in
     let old = g.S.Sink.written c.args.out.now in
     let new = g.S.Sink.written end.new.out in
-    ran_headline named61 end.result _ c.exit_status.ensures old new (bootmem61_outcome wanted)
-    (λ held. AppendsReports61 wanted held old new) (λ held. is_reported61 wanted held old new) _ end.ensures.writes
+    ran_headline named61 end.result _ c.exit_status.ensures old new (bootmem61_outcome args)
+    (λ held. AppendsReports61 args held old new) (λ held. is_reported61 args held old new) _ end.ensures.writes
 
 pub returns-clause-line : goal.returns-clause-line
 returns-clause-line g c = λ some.
     let end = c.run61_to_end-end in
-    let wanted = read_args61 (bytes_of_words c.args.words.now) in
+    let args = read_args61 (bytes_of_words c.args.words.now) in
     let before = g.F.Files.faults c.args.files.now in
     let now = g.F.Files.faults end.new.files in
     failure_status_has_line bootmem61 g.E.Sink
-    (bootmem61_failure_line wanted) before now wanted _ _ _ _ end.result _ c.exit_status.ensures end.ensures.cause
-    end.ensures.told _ (bootmem61_outcome wanted) end.ensures.writes some
-    (never_eight named61 end.result _ c.exit_status.ensures before now wanted end.ensures.cause)
+    (bootmem61_failure_line args) before now args _ _ _ _ end.result _ c.exit_status.ensures end.ensures.cause
+    end.ensures.end_line _ (bootmem61_outcome args) end.ensures.writes some
+    (never_eight named61 end.result _ c.exit_status.ensures before now args end.ensures.cause)
 
 pub returns-clause-unread : goal.returns-clause-unread
 returns-clause-unread g c =

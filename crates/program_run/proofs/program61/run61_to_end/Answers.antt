@@ -18,12 +18,12 @@ returns-in-Ok-clause-unfetched g c = λ none. absurd (never_refused _ _ c.in-Ok.
 pub returns-in-Ok-clause-unput : goal.returns-in-Ok-clause-unput
 returns-in-Ok-clause-unput g c = λ none. absurd (never_refused _ _ c.in-Ok.ensures none)
 
-pub returns-in-Ok-clause-told : goal.returns-in-Ok-clause-told
-returns-in-Ok-clause-told g c = rw (are_accepted _ _ c.in-Ok.ensures) c.put_end_line.ensures
+pub returns-in-Ok-clause-end_line : goal.returns-in-Ok-clause-end_line
+returns-in-Ok-clause-end_line g c = rw (are_accepted _ _ c.in-Ok.ensures) c.put_end_line.ensures
 
 pub returns-in-Err-clause-writes : goal.returns-in-Err-clause-writes
 returns-in-Err-clause-writes g c =
-    rw c.reason_by_args_error.ensures (words_fit (λ held wanted. bootmem61_outcome (Some wanted) held)
+    rw c.reason_by_args_error.ensures (words_fit (λ held args. bootmem61_outcome (Some args) held)
     (g.F.Files.holds c.args.files.now) _ c.in-Err.error c.in-Err.ensures)
 
 pub returns-in-Err-clause-cause : goal.returns-in-Err-clause-cause
