@@ -7,9 +7,9 @@
 //! and as a function (`runs_of`). `specs/Sweep.antt` is about lists that are read or built in
 //! order of addresses, `specs/Edits.antt` about what an edit does to one address.
 //!
-//! A [`Stretch`] is any record of a range and a value, such as `struct e820_entry`. An [`Overlay`]
-//! also says which value holds if two records cover an address. [`RunOf`] is such a record for
-//! code that needs no particular format.
+//! A [`ValuedRange`] is any record of a range and a value, such as `struct e820_entry`. An
+//! [`Overlay`] also says which value holds if two records cover an address. [`RunOf`] is such a
+//! record for code that needs no particular format.
 //!
 //! [`overlay_all`] returns the runs of any list of records, which may overlap and may be in any
 //! order. It takes n steps if the records are already a list of runs, and n log n steps if few of
@@ -30,4 +30,4 @@ pub use builder::agree;
 pub use layers::overlay_all;
 pub use order::{runs_are_unique, runs_of_gives_the_runs};
 pub use run::{RunOf, RunValue};
-pub use stretch::{Overlay, Stretch};
+pub use stretch::{Overlay, ValuedRange};

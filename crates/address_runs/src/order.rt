@@ -9,12 +9,12 @@ ghost use Rattle.std.specs.Prelude.{◌≡◌, ◌↔◌, ◌++◌, ℕ, ◌^◌
 ghost use Rattle.address_runs.specs.Runs.{RunOf, AreRuns, IsBefore, IsRunsOf, DecidesEquality, runs_of};
 ghost use Rattle.address_runs.specs.Overlay.{HaveAddresses};
 
-use crate::stretch::Stretch;
+use crate::stretch::ValuedRange;
 
 /// Returns whether the record and `others`, a list of runs, make one longer list of runs: `others`
 /// is empty, or its first run begins above the record's end, or it begins at that end and has
 /// another value.
-fn is_before<S: Stretch>(stretch: &S, others: &[S]) -> bool
+fn is_before<S: ValuedRange>(stretch: &S, others: &[S]) -> bool
     ensures { IsTrue result ↔ IsBefore (S.run stretch.now) (map S.run others.now) }
 {
     let [next, ..] = others else {
@@ -27,7 +27,7 @@ fn is_before<S: Stretch>(stretch: &S, others: &[S]) -> bool
 
 /// Returns whether the records are a list of runs: they ascend without overlaps, and two that touch
 /// have different values. No record may be empty.
-pub fn are_runs<S: Stretch>(stretches: &[S]) -> bool
+pub fn are_runs<S: ValuedRange>(stretches: &[S]) -> bool
     requires { HaveAddresses (map S.run stretches.now) }
     ensures { IsTrue result ↔ AreRuns (map S.run stretches.now) }
 {
@@ -44,7 +44,7 @@ pub fn are_runs<S: Stretch>(stretches: &[S]) -> bool
 /// Returns whether the runs of `first`, followed by those of `second`, are one list of runs: all of
 /// `second` lies above `first`, and the last run of `first` and the first run of `second` can't be
 /// merged.
-pub fn are_apart<S: Stretch>(first: &[S], second: &[S]) -> bool
+pub fn are_apart<S: ValuedRange>(first: &[S], second: &[S]) -> bool
     requires first { AreRuns (map S.run first.now) }
     requires second { AreRuns (map S.run second.now) }
     ensures { IsTrue result ↔ AreRuns (map S.run first.now ++ map S.run second.now) }

@@ -4,7 +4,7 @@ ghost use Rattle.std.specs.Prelude.{◌≡◌, ◌↔◌, Option, IsTrue};
 ghost use Rattle.std.specs.Option.{option_or};
 ghost use Rattle.address_runs.specs.First.{first_none, first_alone, first_grouped};
 
-use crate::stretch::{Overlay, Stretch};
+use crate::stretch::{Overlay, ValuedRange};
 use bm_base::Range;
 use std::marker::Model;
 
@@ -53,7 +53,7 @@ impl<V> Model for RunOf<V> {
     } };
 }
 
-impl<V: RunValue> Stretch for RunOf<V> {
+impl<V: RunValue> ValuedRange for RunOf<V> {
     type Value = V;
 
     ghost run = { λ r. r };

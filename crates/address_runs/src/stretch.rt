@@ -1,8 +1,8 @@
 //! The traits of records from which lists of runs are made.
 //!
-//! A [`Stretch`] has a range and a value, as `struct e820_entry` and `struct memblock_region` do.
-//! An [`Overlay`] also decides which value holds if two records cover an address, for example the
-//! greater type of memory.
+//! A [`ValuedRange`] has a range and a value, as `struct e820_entry` and `struct memblock_region`
+//! do. An [`Overlay`] also decides which value holds if two records cover an address, for example
+//! the greater type of memory.
 
 ghost use Rattle.std.specs.Prelude.{◌≡◌, ◌↔◌, Option, None, IsTrue};
 ghost use Rattle.address_runs.specs.Runs.{RunOf};
@@ -10,7 +10,7 @@ ghost use Rattle.address_runs.specs.Runs.{RunOf};
 use bm_base::Range;
 
 /// A record of a range of addresses and one value, which all of these addresses have.
-pub trait Stretch: Copy {
+pub trait ValuedRange: Copy {
     /// The type of the values.
     type Value: Copy;
 
@@ -36,7 +36,7 @@ pub trait Stretch: Copy {
 }
 
 /// A record whose values can be joined if records overlap.
-pub trait Overlay: Stretch {
+pub trait Overlay: ValuedRange {
     // the result of `join`, as contracts see it
     ghost join_of: { Option Self.Value → Option Self.Value → Option Self.Value };
 

@@ -17,7 +17,7 @@ use Rattle.boot_inputs.specs.File.{File}
 use Rattle.boot_inputs.specs.Input.{input_place}
 use Rattle.boot_inputs.specs.Inputs.{FileNames, inputs_after_file, inputs_after_files, answer_or_faulty_file, step_or_unread_file, inputs_after_optional_file, within_limit}
 use Rattle.program_end.specs.Program.{FileContents}
-use Rattle.boot_inputs.specs.Reading.{AreRead, IsErrorBy, are_read_by, are_read_later, are_in_reading_order}
+use Rattle.boot_inputs.specs.Reading.{AreRead, IsErrorBy, are_read_up_to, are_read_later, are_in_reading_order}
 
 -- if reading reached `other`, it reached each input that isn't after it
 faulty_comes : {A : Type 0} (input other : Input) (x : Result A Fault) → input_place input ≤ input_place other
@@ -82,10 +82,10 @@ own_by (errors.Reason (reasons.Stopped cause)) input place own below = own
 own_by errors.Memory input place own below = tt
 
 first_by : (error : NoInputs) (file : File) (files : List File) (place : ℕ) → IsErrorOfInput file.input error
-    → IsTrue (are_read_by place (file ∷ files)) → IsErrorBy place error
+    → IsTrue (are_read_up_to place (file ∷ files)) → IsErrorBy place error
 first_by error file files place own by =
     own_by error file.input place own
-    (leb-true _ _ (and_parts (nat_le (input_place file.input) place) (are_read_by place files) by).0)
+    (leb-true _ _ (and_parts (nat_le (input_place file.input) place) (are_read_up_to place files) by).0)
 
 -- a file is reported unread only if the count of its faults rose, and before it no count fell
 pub cause_behind : {A : Type 0} (before mid now : List ℕ → ℕ) (named : FileNames) (answer : Result A NoInputs)
@@ -128,7 +128,7 @@ module _ {F : Type 0} (kind : FilesOf F) (names : FileNames) (file : File) (file
     fetches = if_both (kind.holds old) _ _ _ (λ held is fetches. rw is fetches) added.fetches (rw added.kept at rest.fetches);
     cause = cause_behind (kind.faults old) (kind.faults mid) (kind.faults new) names result added.faults_stay rest.cause;
     own = λ place by.
-        rest.own place (and_parts (nat_le (input_place file.input) place) (are_read_by place files) by).1;
+        rest.own place (and_parts (nat_le (input_place file.input) place) (are_read_up_to place files) by).1;
     unnamed = rest.unnamed;
     kept = rest.kept ∙ added.kept;
     faults_stay = λ any. le_trans (added.faults_stay any) (rest.faults_stay any);

@@ -24,9 +24,9 @@ are_in_reading_order [] = true
 are_in_reading_order (file ∷ files) = are_read_later file.input files && are_in_reading_order files
 
 -- whether the position of every file of the list is at most `place`
-abbrev pub are_read_by : ℕ → List File → Bool
-are_read_by place [] = true
-are_read_by place (file ∷ files) = nat_le (input_place file.input) place && are_read_by place files
+abbrev pub are_read_up_to : ℕ → List File → Bool
+are_read_up_to place [] = true
+are_read_up_to place (file ∷ files) = nat_le (input_place file.input) place && are_read_up_to place files
 
 -- the error is out of memory, or it is that some file couldn't be read or has a fault, and the
 -- position of this file is at most `place`
@@ -48,7 +48,7 @@ pub record AreRead {F : Type 0} (kind : FilesOf F) (named : FileNames) (files : 
     (result : Result (Unit {0}) NoInputs) : Type 0 where
   pub fetches : IfSome (kind.holds old) (λ held. Fetches input_place (λ done. after) result (inputs_after_files held named files before))
   pub cause : IfErr result (IsFileError (kind.faults old) (kind.faults new) named)
-  pub own : (place : ℕ) → IsTrue (are_read_by place files) → IfErr result (IsErrorBy place)
+  pub own : (place : ℕ) → IsTrue (are_read_up_to place files) → IfErr result (IsErrorBy place)
   pub unnamed : ((input : Input) → IsNone (named input)) → IsOk result
   pub kept : kind.holds new ≡ kind.holds old
   pub faults_stay : (any : List ℕ) → kind.faults old any ≤ kind.faults new any

@@ -39,12 +39,12 @@ impl Reader for CommandLines {
     }
 
     fn exhaustion_is_no_fault() {
-        exhaustion_is_no_line_fault();
+        memory_is_no_command_line_fault();
     }
 }
 
 /// Law: "out of memory" is never a fault of a command line's contents.
-pub fn exhaustion_is_no_line_fault()
+pub fn memory_is_no_command_line_fault()
     ensures { (bytes : List ℕ) → ¬ IsErrOf (options_of bytes) OptionFault.Memory }
 {}
 

@@ -57,7 +57,7 @@ mod srat;
 mod zero_page;
 
 pub use claims::{exhaustion_is_no_claims_fault, read_claims};
-pub use command_line::exhaustion_is_no_line_fault;
+pub use command_line::memory_is_no_command_line_fault;
 pub use efi::exhaustion_is_no_efi_fault;
 pub use extension::exhaustion_is_no_ext_fault;
 pub use fault::{Diagnostic, Fault, InputsReason, Misread, NoInputs};

@@ -15,7 +15,7 @@ use Rattle.memblock_model.specs.Labels.{LabelView, Labels}
 use Rattle.memblock_model.specs.Items.{memory_after, trim_frames}
 use Rattle.memblock_model.proofs.LabelLaws.{IsInFrame, in_own_frame, trim_frames-whole, trim_frames-unlike, trim_frames-frame}
 use Rattle.memblock_model.proofs.ItemLaws.{memory_fold-local}
-use Rattle.boot_journal.specs.Bytes.{is_trim, label_after, label_after_items, label_after_trim, EdgeAgrees, EdgeDiffers, ItemAgrees, ItemsAgree}
+use Rattle.boot_journal.specs.Bytes.{is_trim, marks_after, marks_after_items, marks_after_trim, EdgeAgrees, EdgeDiffers, ItemAgrees, ItemsAgree}
 
 -- whether an end of the item's range is at address `e`
 abbrev edge_at : Item → ℕ → Bool
@@ -32,20 +32,20 @@ covers-step : (r : RangeView) (y : ℕ) → ((r.base == y + 1) || (end_of r == y
 covers-step r y h = grind (arith, nat_tests)
 
 -- an item has the same effect on two neighbouring bytes if no end of its range is between them
-label_after-step : (i : Item) (t : Option LabelView) (y : ℕ) → edge_at i (y + 1) ≡ false → label_after (y + 1) t i ≡ label_after y t i
-label_after-step (item.Mem range) t y h = rw (covers-step range y h) refl
-label_after-step (item.Node range node) t y h = rw (covers-step range y h) refl
-label_after-step (item.Mirror range) t y h = rw (covers-step range y h) refl
-label_after-step i t y h = refl
+marks_after-step : (i : Item) (t : Option LabelView) (y : ℕ) → edge_at i (y + 1) ≡ false → marks_after (y + 1) t i ≡ marks_after y t i
+marks_after-step (item.Mem range) t y h = rw (covers-step range y h) refl
+marks_after-step (item.Node range node) t y h = rw (covers-step range y h) refl
+marks_after-step (item.Mirror range) t y h = rw (covers-step range y h) refl
+marks_after-step i t y h = refl
 
-label_after_items-step : (items : List Item) (t : Option LabelView) (y : ℕ) → edge_in items (y + 1) ≡ false
-    → label_after_items t items (y + 1)
-    ≡ label_after_items t items y
-label_after_items-step [] t y h = refl
-label_after_items-step (i ∷ is) t y h =
+marks_after_items-step : (items : List Item) (t : Option LabelView) (y : ℕ) → edge_in items (y + 1) ≡ false
+    → marks_after_items t items (y + 1)
+    ≡ marks_after_items t items y
+marks_after_items-step [] t y h = refl
+marks_after_items-step (i ∷ is) t y h =
     let both = or_parts (edge_at i (y + 1)) (edge_in is (y + 1)) h in
-    ap (λ (u : Option LabelView). label_after_items u is (y + 1)) (label_after-step i t y both.0)
-    ∙ label_after_items-step is (label_after y t i) y both.1
+    ap (λ (u : Option LabelView). marks_after_items u is (y + 1)) (marks_after-step i t y both.0)
+    ∙ marks_after_items-step is (marks_after y t i) y both.1
 
 -- if both ends of a range agree with the frame's first byte, an address that is one of them does
 range_agrees-at : (whole : Option LabelView) (items : List Item) (first : ℕ) (r : RangeView) (e : ℕ) → EdgeAgrees whole items first r.base
@@ -78,74 +78,74 @@ all_agree-at whole items first (i ∷ is) e agree h =
 -- marks
 frame-agrees : (whole : Option LabelView) (items : List Item) (first : ℕ) → ItemsAgree whole items first items → (k y : ℕ) → y ≡ first + k
     → k < 4096
-    → label_after_items whole items y ≡ label_after_items whole items first
+    → marks_after_items whole items y ≡ marks_after_items whole items first
 frame-agrees whole items first agree zero y is lt = let same : y ≡ first = omega arith in rw same refl
 frame-agrees whole items first agree (suc k) y is lt =
     let z : ℕ = first + k in
     let next : y ≡ z + 1 = omega arith in
     rw next (elim (cases_Bool (edge_in items (z + 1))) as (λ _.
-    label_after_items whole items (z + 1) ≡ label_after_items whole items first) [
+    marks_after_items whole items (z + 1) ≡ marks_after_items whole items first) [
       | inl edge ↦ all_agree-at whole items first items (z + 1) agree edge (omega arith) (omega arith)
-      | inr quiet ↦ label_after_items-step items whole z quiet ∙ frame-agrees whole items first agree k z refl (omega arith)
+      | inr quiet ↦ marks_after_items-step items whole z quiet ∙ frame-agrees whole items first agree k z refl (omega arith)
     ])
 
 -- a trim keeps a frame if all ends of ranges agree with its first byte
-pub label_after_trim-agrees : (whole : Option LabelView) (items : List Item) (x : ℕ) → ItemsAgree whole items (x - x % 4096) items
-    → label_after_trim whole items x
-    ≡ label_after_items whole items (x - x % 4096)
-unfolding label_after_trim
-label_after_trim-agrees whole items x agree =
+pub marks_after_trim-agrees : (whole : Option LabelView) (items : List Item) (x : ℕ) → ItemsAgree whole items (x - x % 4096) items
+    → marks_after_trim whole items x
+    ≡ marks_after_items whole items (x - x % 4096)
+unfolding marks_after_trim
+marks_after_trim-agrees whole items x agree =
     let first : ℕ = x - x % 4096 in
-    let one : (y : ℕ) → IsInFrame x y → label_after_items whole items y ≡ label_after_items whole items first =
+    let one : (y : ℕ) → IsInFrame x y → marks_after_items whole items y ≡ marks_after_items whole items first =
     λ y in_frame. frame-agrees whole items first agree (y - first) y (omega arith) (omega arith) in
     let here = one x (in_own_frame x) in
-    trim_frames-whole (label_after_items whole items) x (λ y in_frame. one y in_frame ∙ sym here) ∙ here
+    trim_frames-whole (marks_after_items whole items) x (λ y in_frame. one y in_frame ∙ sym here) ∙ here
 
 -- a trim removes a frame if some end of a range differs from its first byte
-pub label_after_trim-differs : (whole : Option LabelView) (items : List Item) (x e : ℕ) → EdgeDiffers whole items (x - x % 4096) e
-    → label_after_trim whole items x
+pub marks_after_trim-differs : (whole : Option LabelView) (items : List Item) (x e : ℕ) → EdgeDiffers whole items (x - x % 4096) e
+    → marks_after_trim whole items x
     ≡ None
-unfolding label_after_trim
-label_after_trim-differs whole items x e differs =
+unfolding marks_after_trim
+marks_after_trim-differs whole items x e differs =
     let at_edge : IsInFrame x e = record { above = omega arith; below = omega arith } in
     let at_first : IsInFrame x (x - x % 4096) = record { above = omega arith; below = omega arith } in
-    trim_frames-unlike (label_after_items whole items) x e (x - x % 4096) at_edge at_first differs.other
+    trim_frames-unlike (marks_after_items whole items) x e (x - x % 4096) at_edge at_first differs.other
 
 -- the effect of an item other than a trim on a byte depends only on that byte's marks
-label_after-is : (f : Labels) (i : Item) (y : ℕ) → is_trim i ≡ false → memory_after f i y ≡ label_after y (f y) i
-label_after-is f item.Trim y plain = absurd (true≢false plain)
-label_after-is f i y plain = refl
+marks_after-is : (f : Labels) (i : Item) (y : ℕ) → is_trim i ≡ false → memory_after f i y ≡ marks_after y (f y) i
+marks_after-is f item.Trim y plain = absurd (true≢false plain)
+marks_after-is f i y plain = refl
 
 -- none of the items is a trim
 abbrev Plain : List Item → Type 0
 Plain items = (k : ℕ) → k < length items → is_trim (get_or items k item.Trim) ≡ false
 
-labels_after : (f : Labels) (items : List Item) (y : ℕ) → Plain items → fold memory_after f items y ≡ label_after_items (f y) items y
+labels_after : (f : Labels) (items : List Item) (y : ℕ) → Plain items → fold memory_after f items y ≡ marks_after_items (f y) items y
 labels_after f [] y plain = refl
 labels_after f (i ∷ is) y plain =
     labels_after (memory_after f i) is y (λ k lt. plain (suc k) (omega arith))
-    ∙ ap (λ (l : Option LabelView). label_after_items l is y) (label_after-is f i y (plain 0 (omega arith)))
+    ∙ ap (λ (l : Option LabelView). marks_after_items l is y) (marks_after-is f i y (plain 0 (omega arith)))
 
 -- labels under which all bytes have the same marks
 abbrev same_marks_everywhere : Option LabelView → Labels
 same_marks_everywhere carried x = carried
 
 -- the marks of the byte after these items, if all bytes had the marks `whole` before
-abbrev pub label_after_all : Option LabelView → List Item → ℕ → Option LabelView
-label_after_all whole items x = fold memory_after (same_marks_everywhere whole) items x
+abbrev pub marks_after_all : Option LabelView → List Item → ℕ → Option LabelView
+marks_after_all whole items x = fold memory_after (same_marks_everywhere whole) items x
 
 -- after a trim all bytes of the frame have the same marks, so the byte alone decides what comes
 -- after it
 trim_step : (whole : Option LabelView) (items rest : List Item) (x : ℕ) → Plain items
-    → label_after_all whole (items ++ item.Trim ∷ rest) x ≡ label_after_all (label_after_trim whole items x) rest x
-unfolding label_after_trim
+    → marks_after_all whole (items ++ item.Trim ∷ rest) x ≡ marks_after_all (marks_after_trim whole items x) rest x
+unfolding marks_after_trim
 trim_step whole items rest x plain =
-    let same : fold memory_after (same_marks_everywhere whole) items ≡ label_after_items whole items =
+    let same : fold memory_after (same_marks_everywhere whole) items ≡ marks_after_items whole items =
     λ k y. labels_after (same_marks_everywhere whole) items y plain k in
     ap (λ (f : Labels). f x) (fold-append memory_after (same_marks_everywhere whole) items (item.Trim ∷ rest))
     ∙ ap (λ (f : Labels). fold memory_after (trim_frames f) rest x) same
-    ∙ memory_fold-local (trim_frames (label_after_items whole items)) (same_marks_everywhere (label_after_trim whole items x)) rest x
-    (trim_frames-frame (label_after_items whole items) x) x (in_own_frame x)
+    ∙ memory_fold-local (trim_frames (marks_after_items whole items)) (same_marks_everywhere (marks_after_trim whole items x)) rest x
+    (trim_frames-frame (marks_after_items whole items) x) x (in_own_frame x)
 
 position_none : (items : List Item) → position is_trim items ≡ None → Plain items
 position_none items h k lt =
@@ -160,17 +160,17 @@ is_trim-is i h = absurd (true≢false (sym h))
 
 -- one iteration of the loop: the items up to the next trim
 pub turn : (whole : Option LabelView) (items : List Item) (i x : ℕ) → position is_trim items ≡ Some i
-    → label_after_all whole items x ≡ label_after_all (label_after_trim whole (take i items) x) (drop (i + 1) items) x
+    → marks_after_all whole items x ≡ marks_after_all (marks_after_trim whole (take i items) x) (drop (i + 1) items) x
 turn whole items i x found =
     let at = position-Some is_trim items i item.Trim found in
     let trim : get_or items i item.Trim ≡ item.Trim = is_trim-is (get_or items i item.Trim) at.1 in
     let apart : items ≡ take i items ++ (item.Trim ∷ drop (suc i) items) = rw trim at (split_at items i item.Trim at.0) in
     let plain : Plain (take i items) = λ k less.
     rw (get_or-take i items k item.Trim (omega (arith, length-take i items))) (at.2 k (omega (arith, length-take i items))) in
-    ap (λ (is : List Item). label_after_all whole is x) apart ∙ rw add-one (trim_step whole (take i items) (drop (suc i) items) x plain)
+    ap (λ (is : List Item). marks_after_all whole is x) apart ∙ rw add-one (trim_step whole (take i items) (drop (suc i) items) x plain)
 
 -- the end of the loop: the items after the last trim
 pub items_after_last_trim : (whole : Option LabelView) (items : List Item) (x : ℕ) → position is_trim items ≡ None
-    → label_after_all whole items x
-    ≡ label_after_items whole items x
+    → marks_after_all whole items x
+    ≡ marks_after_items whole items x
 items_after_last_trim whole items x none = labels_after (same_marks_everywhere whole) items x (position_none items none)

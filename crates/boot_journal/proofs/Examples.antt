@@ -9,7 +9,7 @@ use Rattle.bm_base.specs.Each.{each_from, each_in}
 use Rattle.memblock_model.specs.Labels.{LabelView, plain_label, with_node, with_mirror}
 use Rattle.memblock_model.specs.Items.{trim_frames}
 use Rattle.boot_journal.specs.Mirrors.{has_mirrors_after, has_mirrors}
-use Rattle.boot_journal.specs.Bytes.{label_after_items, label_after_trim, EdgeDiffers, ItemAgrees}
+use Rattle.boot_journal.specs.Bytes.{marks_after_items, marks_after_trim, EdgeDiffers, ItemAgrees}
 
 abbrev bytes : ℕ → ℕ → RangeView
 bytes base size = record { base = base; size = size }
@@ -21,14 +21,14 @@ of_node node = with_node (Some node) plain_label
 abbrev half : List Item
 half = item.Mem (bytes 4096 4096) ∷ (item.Node (bytes 4096 2048) 3 ∷ [])
 
-from_examples : (label_after_items None half 4096 ≡ Some (of_node 3)) × (label_after_items None half 6144 ≡ Some plain_label)
-    × (label_after_items None half 0 ≡ None)
+from_examples : (marks_after_items None half 4096 ≡ Some (of_node 3)) × (marks_after_items None half 6144 ≡ Some plain_label)
+    × (marks_after_items None half 0 ≡ None)
 from_examples = (refl, refl, refl)
 
 -- a trim removes a frame of which only half has a node, and keeps one that is all memory without a
 -- node
-kept_examples : (label_after_trim None half 4096 ≡ None) × (label_after_trim None (item.Mem (bytes 4096 4096) ∷ []) 5000 ≡ Some plain_label)
-unfolding label_after_trim trim_frames each_in each_from
+kept_examples : (marks_after_trim None half 4096 ≡ None) × (marks_after_trim None (item.Mem (bytes 4096 4096) ∷ []) 5000 ≡ Some plain_label)
+unfolding marks_after_trim trim_frames each_in each_from
 kept_examples = (refl, refl)
 
 plain_is_another : Some plain_label ≡ Some (of_node 3) → ⊥

@@ -13,30 +13,30 @@ is_trim item.Trim = true
 is_trim i = false
 
 -- the marks of the byte at address `x` after the item; after a trim they are unchanged, since this
--- definition leaves trims to `label_after_trim`
-abbrev pub label_after : ℕ → Option LabelView → Item → Option LabelView
-label_after x carried item.Trim = carried
-label_after x carried i = memory_after (λ y. carried) i x
+-- definition leaves trims to `marks_after_trim`
+abbrev pub marks_after : ℕ → Option LabelView → Item → Option LabelView
+marks_after x carried item.Trim = carried
+marks_after x carried i = memory_after (λ y. carried) i x
 
 -- the marks of the byte after these items; before them it had the marks `whole`
-abbrev pub label_after_items : Option LabelView → List Item → ℕ → Option LabelView
-label_after_items whole items x = fold (label_after x) whole items
+abbrev pub marks_after_items : Option LabelView → List Item → ℕ → Option LabelView
+marks_after_items whole items x = fold (marks_after x) whole items
 
 -- the marks of the byte after these items and a trim; before them all bytes of its frame had the
 -- marks `whole`
-unfoldable pub label_after_trim : Option LabelView → List Item → ℕ → Option LabelView
-label_after_trim whole items x = trim_frames (label_after_items whole items) x
+unfoldable pub marks_after_trim : Option LabelView → List Item → ℕ → Option LabelView
+marks_after_trim whole items x = trim_frames (marks_after_items whole items) x
 
 -- if address `e` is inside the frame at `first`, its byte has the same marks as the frame's first
 -- byte
 abbrev pub EdgeAgrees : Option LabelView → List Item → ℕ → ℕ → Type 0
-EdgeAgrees whole items first e = first < e → e < first + FRAME_SIZE → label_after_items whole items e ≡ label_after_items whole items first
+EdgeAgrees whole items first e = first < e → e < first + FRAME_SIZE → marks_after_items whole items e ≡ marks_after_items whole items first
 
 -- the address is inside the frame, and its byte has other marks than the frame's first byte
 pub record EdgeDiffers (whole : Option LabelView) (items : List Item) (first e : ℕ) : Type 0 where
   pub behind : first < e
   pub inside : e < first + FRAME_SIZE
-  pub other : label_after_items whole items e ≢ label_after_items whole items first
+  pub other : marks_after_items whole items e ≢ marks_after_items whole items first
 
 -- at both ends of the item's range, the byte has the same marks as the frame's first byte, if the
 -- end is inside the frame

@@ -9,7 +9,7 @@ ghost use Rattle.std.specs.Prelude.{◌+◌, ◌^◌, ◌<◌, ◌≤◌, length
 ghost use Rattle.address_runs.specs.Runs.{AreRuns, IsRunsOf, value_at};
 ghost use Rattle.address_runs.specs.Edits.{change_range, IsEmptyFrom};
 ghost use Rattle.memblock_model.specs.Items.{ItemHasBytes, owners_after};
-ghost use Rattle.run_edits.specs.Records.{EndsNoRun};
+ghost use Rattle.run_edits.specs.Records.{AddsNoRunEnd};
 
 use crate::run_list::RunList;
 use bm_base::Range;
@@ -42,7 +42,7 @@ fn apply_change<C: Change<Owner>>(owners: &mut RunList, range: &Range, change: C
     requires some { 0 < range.now.size }
     requires runs { AreRuns owners.old.items }
     requires within { IsEmptyFrom (2 ^ 64) (value_at owners.old.items) }
-    requires change { EndsNoRun (C.makes change) }
+    requires change { AddsNoRunEnd (C.makes change) }
     requires room { length owners.old.items + 2 ≤ owners.old.room }
     ensures runs { IsRunsOf
         (change_range (C.makes change) range.now (value_at owners.old.items)) owners.new.items }

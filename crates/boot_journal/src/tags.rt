@@ -11,15 +11,15 @@ ghost use Rattle.std.specs.Prelude.{◌≡◌, ◌<◌, ℕ, IsTrue, IfSome, Non
 ghost use Rattle.bm_base.specs.Range.{end_of};
 ghost use Rattle.memblock_model.specs.Labels.{tag_for};
 ghost use Rattle.memblock_model.specs.Items.{tag_of};
-ghost use Rattle.boot_journal.specs.Bytes.{is_trim, label_after, label_after_items, label_after_trim, EdgeAgrees, EdgeDiffers, ItemAgrees, ItemsAgree};
+ghost use Rattle.boot_journal.specs.Bytes.{is_trim, marks_after, marks_after_items, marks_after_trim, EdgeAgrees, EdgeDiffers, ItemAgrees, ItemsAgree};
 
 use bm_base::{FRAME_SIZE, Range};
 use memblock_model::{Item, Marks, Tag};
 
 /// Returns the marks of the byte at `x` after an item other than a trim, or `None` if the byte
 /// isn't memory. `carried` has the byte's marks before the item.
-fn label_after(carried: Option<Marks>, item: &Item, x: u64) -> Option<Marks>
-    ensures { result ≡ label_after x carried item.now }
+fn marks_after(carried: Option<Marks>, item: &Item, x: u64) -> Option<Marks>
+    ensures { result ≡ marks_after x carried item.now }
 {
     match item {
         Item::Mem { range } if range.contains(x) => carried.or(Some(Marks::new())),
@@ -33,12 +33,12 @@ fn label_after(carried: Option<Marks>, item: &Item, x: u64) -> Option<Marks>
 
 /// Returns the marks of the byte at `x` after these items, none of which is a trim, or `None` if
 /// the byte isn't memory. `whole` has the byte's marks before the items.
-fn label_after_items(whole: &Option<Marks>, items: &[Item], x: u64) -> Option<Marks>
-    ensures { result ≡ label_after_items whole.now items.now x }
+fn marks_after_items(whole: &Option<Marks>, items: &[Item], x: u64) -> Option<Marks>
+    ensures { result ≡ marks_after_items whole.now items.now x }
 {
     items
         .iter()
-        .fold(*whole, |carried, item| label_after(carried, item, x))
+        .fold(*whole, |carried, item| marks_after(carried, item, x))
 }
 
 fn first_trim(items: &[Item]) -> Option<usize>
@@ -58,7 +58,7 @@ fn edge_agrees(whole: &Option<Marks>, items: &[Item], first: u64, edge: u64) -> 
     if edge <= first || edge - first >= FRAME_SIZE {
         return true;
     }
-    label_after_items(whole, items, edge) == label_after_items(whole, items, first)
+    marks_after_items(whole, items, edge) == marks_after_items(whole, items, first)
 }
 
 /// Tests whether, after the items, the byte at each end of this item's range has the same marks as
@@ -103,14 +103,14 @@ fn frame_agrees(whole: &Option<Marks>, items: &[Item], first: u64) -> bool
 /// Returns the marks of the byte at `x` after these items, none of which is a trim, and then a
 /// trim. Before the items all bytes of its frame must have had the marks `whole`. If the items give
 /// bytes of the frame different marks, the trim removes the frame, and the result is `None`.
-fn label_after_trim(whole: &Option<Marks>, items: &[Item], x: u64) -> Option<Marks>
-    ensures { result ≡ label_after_trim whole.now items.now x }
+fn marks_after_trim(whole: &Option<Marks>, items: &[Item], x: u64) -> Option<Marks>
+    ensures { result ≡ marks_after_trim whole.now items.now x }
 {
     let first = x - x % FRAME_SIZE;
     if !frame_agrees(whole, items, first) {
         return None;
     }
-    label_after_items(whole, items, first)
+    marks_after_items(whole, items, first)
 }
 
 /// Returns the tag of a byte with these marks: [`Tag::Absent`] if it has none.
@@ -133,8 +133,8 @@ pub fn tag_at(items: &[Item], x: u64) -> Tag
     let mut whole = None;
     let mut rest = items;
     while let Some(i) = first_trim(rest) {
-        whole = label_after_trim(&whole, &rest[..i], x);
+        whole = marks_after_trim(&whole, &rest[..i], x);
         rest = &rest[i + 1..];
     }
-    tag_for(label_after_items(&whole, rest, x))
+    tag_for(marks_after_items(&whole, rest, x))
 }

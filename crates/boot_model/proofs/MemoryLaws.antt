@@ -26,7 +26,7 @@ use Rattle.script_reader.specs.declared.act.Line.{Line}
 use Rattle.early_script.specs.Effects.{script_outcome_at_line, state_after_line}
 use Rattle.early_script.specs.Lines.{ScriptSoFar, script_after_line, script_after_lines, lines_before_sections, lines_after_sections, line_effect}
 use Rattle.early_script.proofs.QuietLaws.{acts-keep, act_effect-quiet}
-use Rattle.boot_model.specs.Added.{added_bytes}
+use Rattle.boot_model.specs.Added.{memory_bytes_of_map}
 use Rattle.boot_model.specs.declared.extra.Profile.{Profile}
 use Rattle.boot_model.specs.Boot.{ExtraView, InputsView, BootSoFar, Stage, boot_with, claims, claims_stage, claims_state, early_inputs, crash_area_stage, memory_stage, nodes_stage, sections_stage, later_stages, judge_map, all_mirrors, made_with_crash_area, made_with_nodes, made_with_sections, reach, reserve_for_map, script_stage, script_state, types_in_reach}
 use Rattle.boot_model.specs.Sections.{place_present_sections}
@@ -105,14 +105,14 @@ pub crash_labels : (profile : Profile) (inputs : InputsView) → Keeps labels_by
 crash_labels profile inputs before last =
     steps_keep labels_by cause_of_growth made_with_crash_area (reserve_for_map profile inputs before.map) (λ a m. refl)
     (λ made. quiet-appended_memory made.items (reserve_for_map profile inputs before.map made.items).steps
-    ((quiet-reserved_by profile.crash (added_bytes (reach inputs) before.map) inputs.options.crash).each made.items)) before last
+    ((quiet-reserved_by profile.crash (memory_bytes_of_map (reach inputs) before.map) inputs.options.crash).each made.items)) before last
 
 -- the stage of the crash area leaves the limit as it is
 crash_bound : (profile : Profile) (inputs : InputsView) → Keeps bound_by (crash_area_stage profile inputs)
 crash_bound profile inputs before last =
     steps_keep bound_by cause_of_growth made_with_crash_area (reserve_for_map profile inputs before.map) (λ a m. refl)
     (λ made. quiet-appended_limit made.items (reserve_for_map profile inputs before.map made.items).steps
-    ((quiet-reserved_by profile.crash (added_bytes (reach inputs) before.map) inputs.options.crash).each made.items)) before last
+    ((quiet-reserved_by profile.crash (memory_bytes_of_map (reach inputs) before.map) inputs.options.crash).each made.items)) before last
 
 quiet_sections : (width : Width) → KeepsMemory (place_present_sections width)
 unfolding place_present_sections

@@ -10,5 +10,5 @@ added_by_run reach r = if is_memory (Some r.value) then min (run_end r) reach - 
 
 -- the number of the map's bytes below `reach` that are RAM or the kernel's own memory, partial
 -- frames included (`memblock_phys_mem_size`)
-abbrev pub added_bytes : ℕ → List (RunOf ℕ) → ℕ
-added_bytes reach map = sum_by (λ r. added_by_run reach r) map
+abbrev pub memory_bytes_of_map : ℕ → List (RunOf ℕ) → ℕ
+memory_bytes_of_map reach map = sum_by (λ r. added_by_run reach r) map

@@ -49,7 +49,7 @@ use Rattle.zone_spans.specs.Spans.{spans_of}
 use Rattle.zone_spans.specs.Hull.{spans_by}
 use Rattle.zone_spans.specs.declared.rule.ZoneRule.{ZoneRule}
 use Rattle.boot_model.specs.declared.extra.Profile.{Profile}
-use Rattle.boot_model.specs.Added.{added_bytes}
+use Rattle.boot_model.specs.Added.{memory_bytes_of_map}
 use Rattle.boot_model.specs.Profiles.{own_profile}
 use Rattle.boot_model.specs.declared.stop.Cause.{Cause}
 use Rattle.boot_model.specs.declared.stop.Cause.TheVariants as causes
@@ -367,7 +367,7 @@ made_with_crash_area area made = record made { crash = area }
 
 -- reserves the crash area by the profile's rule (`reserve_crashkernel`)
 abbrev pub reserve_for_map : Profile → InputsView → List (RunOf ℕ) → StageStep RefusedGrowth Crash
-reserve_for_map profile inputs map = reserve_crash_area_by profile.crash (added_bytes (reach inputs) map) inputs.options.crash
+reserve_for_map profile inputs map = reserve_crash_area_by profile.crash (memory_bytes_of_map (reach inputs) map) inputs.options.crash
 
 abbrev pub crash_area_stage : Profile → InputsView → Stage
 crash_area_stage profile inputs made = stage_of_steps cause_of_growth made_with_crash_area (reserve_for_map profile inputs made.map) made

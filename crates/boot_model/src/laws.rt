@@ -23,7 +23,7 @@ use bm_base::FRAME_SIZE;
 /// Law: the EFI memory map adds claims to the e820 table (typed ranges of addresses) only if the
 /// command line asks for it (`add_efi_memmap`) and the EFI map has descriptors. Otherwise the
 /// claims are those of a boot without that map.
-pub fn efi_map_counts_only_if_asked()
+pub fn efi_entries_count_only_if_asked()
     ensures unasked { (inputs : InputsView) → inputs.options.add_efi ≡ false →
         claims inputs ≡ claims (record inputs { efi = None }) }
     ensures empty { (inputs : InputsView) → efi_entries inputs.efi ≡ [] →

@@ -35,7 +35,7 @@ pub use booted::Booted;
 pub use extra::{Extra, Profile};
 pub use inputs::{Inputs, is_kernel};
 pub use laws::{
-    boot_has_own_profile, efi_map_counts_only_if_asked, map_gives_frames, map_gives_memory,
+    boot_has_own_profile, efi_entries_count_only_if_asked, map_gives_frames, map_gives_memory,
     map_gives_types, mirrors_are_whole_frames, no_ram_means_no_usable_frame,
 };
 pub use stop::{Cause, Stop};

@@ -21,7 +21,7 @@ use Rattle.boot_model.specs.Boot.{ExtraView, InputsView, BootSoFar, added_entrie
 use Rattle.boot_model.specs.Stages.{run_each_stage}
 use Rattle.boot_model.specs.Stop.{stop_of}
 use Rattle.boot_stages.proofs.StagesLaws.{stopped}
-use Rattle.boot_stages.specs.Boots.{DecidesMapStages, TableMapResult, accept_map, map_or_stop}
+use Rattle.boot_stages.specs.Boots.{DecidesMapStages, TableMapResult, accept_table_result, map_or_stop}
 
 -- a result followed by a step that changes nothing is that result
 answered : {A E : Type 0} (said : Result A E) → (said >>= λ x. Ok x) ≡ said
@@ -73,7 +73,7 @@ judged_same inputs (Some reason) runs (Err stop) answers = λ other. cc (answers
 pub map_answers : (inputs : InputsView) (answer : TableMapResult) → Answers faults.Memory (λ runs. runs.items) answer
     (map_if_room (map_of (claims inputs)))
     → IfOk answer (λ runs. IsRunsOf (kinds (claims inputs)) runs.items) → (result : Result (Vec (RunOf ℕ) Global) Stop)
-    → Answers stops.Memory (λ map. map.items) result (accept_map (reach inputs) answer)
+    → Answers stops.Memory (λ map. map.items) result (accept_table_result (reach inputs) answer)
     → Answers stops.Memory (made_of inputs) result (map_error stop_of (judge_map inputs))
 map_answers inputs (Ok runs) maps are result answers =
     let kinds_are : value_at runs.items ≡ kinds (claims inputs) = λ i x. are.each x i in

@@ -52,9 +52,9 @@ map_or_stop (Some reason) map = Err (stop_of (cause_of_map reason))
 -- the map that the e820 table returned, if it has 1 to 2^32 usable frames below the address
 -- `reach`, the limit of physical addresses. Otherwise why the boot stops: the number of usable
 -- frames is refused, or the table returned an error.
-abbrev pub accept_map : ℕ → TableMapResult → Result (List (RunOf ℕ)) Stop
-accept_map reach (Ok runs) = map_or_stop (judge_frames (types_below reach (value_at runs.items))) runs.items
-accept_map reach (Err fault) = Err (stop_of_map fault)
+abbrev pub accept_table_result : ℕ → TableMapResult → Result (List (RunOf ℕ)) Stop
+accept_table_result reach (Ok runs) = map_or_stop (judge_frames (types_below reach (value_at runs.items))) runs.items
+accept_table_result reach (Err fault) = Err (stop_of_map fault)
 
 -- How the stages that accept the map (`judge_map`) end, by what the e820 table returned. If it
 -- returned the map, they end as the check of the number of usable frames does. If the map has too

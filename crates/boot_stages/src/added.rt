@@ -2,17 +2,17 @@
 
 ghost use Rattle.std.specs.Prelude.{◌≡◌, ◌^◌, ◌≤◌};
 ghost use Rattle.address_runs.specs.Runs.{AreRuns};
-ghost use Rattle.boot_model.specs.Added.{added_by_run, added_bytes};
+ghost use Rattle.boot_model.specs.Added.{added_by_run, memory_bytes_of_map};
 
 use e820_sanitise::{Run, is_memory};
 
 /// Returns the number of bytes below `reach`, the limit of physical addresses, to which the map
 /// gives the type RAM (1) or the kernel's own memory (128). The bytes of partial frames are
 /// included (`memblock_phys_mem_size`).
-pub fn added_bytes(map: &[Run], reach: u64) -> u64
+pub fn memory_bytes_of_map(map: &[Run], reach: u64) -> u64
     requires runs { AreRuns map.now }
     requires reach { reach ≤ 2 ^ 52 }
-    ensures sum { result ≡ added_bytes reach map.now }
+    ensures sum { result ≡ memory_bytes_of_map reach map.now }
     ensures in_reach { result ≤ 2 ^ 52 }
 {
     let mut added = 0;

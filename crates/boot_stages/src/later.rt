@@ -17,7 +17,7 @@ ghost use Rattle.boot_model.specs.Sections.{place_present_sections};
 ghost use Rattle.boot_model.specs.View.{extra_view, inputs_view, sections_view};
 ghost use Rattle.boot_stages.specs.Boots.{StagesEndWith, StagesStopWith, HasBytesOfHistory};
 
-use crate::added::added_bytes;
+use crate::added::memory_bytes_of_map;
 use crate::memory::make_memory;
 use bm_base::Width;
 use boot_model::{Extra, Inputs, Stop};
@@ -78,7 +78,7 @@ fn place_sections(
 
 /// Runs the stages that follow once the map is accepted: memory, early claims, nodes, the crash
 /// area, and the early script with the placing of sections. `memblock` must be new. `map` must be
-/// accepted (`accept_map`).
+/// accepted (`accept_table_result`).
 ///
 /// # Errors
 ///
@@ -112,7 +112,7 @@ pub fn run_stages(
         inputs.srat.as_ref(),
         inputs.options.numa_off,
     )?;
-    let added = added_bytes(map, inputs.reach());
+    let added = memory_bytes_of_map(map, inputs.reach());
     let crash = reserve_by(memblock, extra.profile.crash, added, &inputs.options.crash)?;
     let mut answers = Vec::new(alloc);
     let (before, behind) = split_at_sections(&inputs.lines);

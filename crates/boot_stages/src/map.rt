@@ -11,7 +11,7 @@ ghost use Rattle.e820_model.specs.Usable.{types_below};
 ghost use Rattle.e820_sanitise.specs.Stop.{judge_frames};
 ghost use Rattle.boot_model.specs.Boot.{added_entries};
 ghost use Rattle.boot_model.specs.View.{inputs_view};
-ghost use Rattle.boot_stages.specs.Boots.{accept_map, map_or_stop};
+ghost use Rattle.boot_stages.specs.Boots.{accept_table_result, map_or_stop};
 
 use bm_base::Memory;
 use boot_model::{Cause, Inputs, Stop};
@@ -103,14 +103,15 @@ fn edit_and_sanitise(table: &mut Table, edits: &[Edit], added: &[Entry]) -> Resu
 /// - `NoRam`: no frame below `reach` is usable
 /// - `TooMuchRam`: more than 2^32 frames below `reach` are usable
 /// - `Memory`: `answer` is this error
-pub fn accept_map(answer: Result<Vec<Run>, MapFault>, reach: u64) -> Result<Vec<Run>, Stop>
+pub fn accept_table_result(answer: Result<Vec<Run>, MapFault>, reach: u64) -> Result<Vec<Run>, Stop>
     requires { IfOk answer (λ runs. AreRuns runs.items) }
-    ensures answers { Answers Stop.Memory (λ runs. runs.items) result (accept_map reach answer) }
+    ensures answers { Answers Stop.Memory (λ runs. runs.items) result
+        (accept_table_result reach answer) }
     ensures wanting { IsErrOf result Stop.Memory ↔ IsErrOf answer MapFault.Memory }
     ensures runs { IfOk result (λ runs. AreRuns runs.items) }
 {
     match answer {
-        Ok(map) => check_map(map, reach),
+        Ok(map) => check_usable_frames(map, reach),
         Err(MapFault::MapFull { runs }) => Err(Stop::MapFull { runs }),
         Err(MapFault::Memory) => Err(Stop::Memory),
     }
@@ -122,7 +123,7 @@ pub fn accept_map(answer: Result<Vec<Run>, MapFault>, reach: u64) -> Result<Vec<
 ///
 /// - `NoRam`: no frame below `reach` is usable
 /// - `TooMuchRam`: more than 2^32 frames below `reach` are usable
-fn check_map(map: Vec<Run>, reach: u64) -> Result<Vec<Run>, Stop>
+fn check_usable_frames(map: Vec<Run>, reach: u64) -> Result<Vec<Run>, Stop>
     requires { AreRuns map.items }
     ensures answers { Answers Stop.Memory (λ runs. runs.items) result
         (map_or_stop (judge_frames (types_below reach (value_at map.items))) map.items) }

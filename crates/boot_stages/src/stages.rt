@@ -19,7 +19,7 @@ ghost use Rattle.boot_stages.specs.Boots.{IsFreeByStore, IsStoredTable};
 
 use crate::handover::hand_over_memory;
 use crate::later::run_stages;
-use crate::map::{accept_map, added_entries, finished_table};
+use crate::map::{accept_table_result, added_entries, finished_table};
 use boot_model::{Booted, Extra, Inputs, Profile, Stop};
 use e820_sanitise::Run;
 use memblock_grow::Memblock;
@@ -114,14 +114,14 @@ pub fn boot_with(alloc: Global, extra: &Extra, inputs: Inputs) -> Result<Booted,
     ensures paged { IfOk result (λ booted. AllInOneBlockOrHeld (booted_view booted)) }
     ensures none_paged { IfOk result (λ booted. NoOtherInABlockOrHeld (booted_view booted)) }
 {
-    let map = accepted_map(alloc, &inputs)?;
+    let map = make_map(alloc, &inputs)?;
     let mut memblock = Memblock::new(alloc, inputs.kernel)?;
     let later = run_stages(alloc, &mut memblock, extra, &inputs, &map)?;
     Ok(hand_over_memory(alloc, memblock, extra.profile, inputs, map, later)?)
 }
 
-/// Returns the map of the finished e820 table, if the boot accepts it ([`accept_map`]): it has at
-/// most 3,200 runs, and 1 to 2^32 usable frames.
+/// Returns the map of the finished e820 table, if the boot accepts it ([`accept_table_result`]): it
+/// has at most 3,200 runs, and 1 to 2^32 usable frames.
 ///
 /// # Errors
 ///
@@ -129,7 +129,7 @@ pub fn boot_with(alloc: Global, extra: &Extra, inputs: Inputs) -> Result<Booted,
 /// - `NoRam`: no frame is usable
 /// - `TooMuchRam`: more than 2^32 frames are usable
 /// - `Memory`: the program ran out of memory
-fn accepted_map(alloc: Global, inputs: &Inputs) -> Result<Vec<Run>, Stop>
+fn make_map(alloc: Global, inputs: &Inputs) -> Result<Vec<Run>, Stop>
     ensures answers { Answers Stop.Memory (λ map.
         begin_with_map map.items (inputs_view inputs.now).options) result
         (map_error stop_of (judge_map (inputs_view inputs.now))) }
@@ -142,5 +142,5 @@ fn accepted_map(alloc: Global, inputs: &Inputs) -> Result<Vec<Run>, Stop>
         &inputs.options.edits,
         added_entries(inputs),
     )?;
-    accept_map(table.runs(), inputs.reach())
+    accept_table_result(table.runs(), inputs.reach())
 }

@@ -14,7 +14,7 @@ use crate::count::count_equal_blocks;
 use crate::run::{FrameRun, MAX_FRAMES};
 use crate::set::set_within;
 use bm_base::{Memory, zone_of};
-use run_edits::seek;
+use run_edits::first_ending_above;
 use std::alloc::Global;
 
 /// Returns all blocks of the free frames, in ascending order. The runs must be ascending and not
@@ -125,7 +125,7 @@ pub fn block_of(runs: &Vec<FrameRun>, frame: u64) -> Option<Block>
     requires { AreRuns runs.now.items }
     ensures { result ≡ block_of (value_at runs.now.items) frame }
 {
-    let i = seek(runs, frame) as usize;
+    let i = first_ending_above(runs, frame) as usize;
     if i >= runs.len() {
         return None;
     }

@@ -1,6 +1,6 @@
 //! The record in which free frames are kept: consecutive frames and their node.
 
-use address_runs::Stretch;
+use address_runs::ValuedRange;
 use bm_base::Range;
 use std::marker::Model;
 
@@ -31,7 +31,7 @@ impl Model for FrameRun {
 }
 
 /// A run of frames is used like a run of addresses, with frame numbers in place of addresses.
-impl Stretch for FrameRun {
+impl ValuedRange for FrameRun {
     type Value = u32;
 
     ghost run = { λ r. r };

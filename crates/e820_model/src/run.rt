@@ -4,7 +4,7 @@ ghost use Rattle.std.specs.Prelude.{◌≡◌, ℕ, ◌+◌, ◌^◌, ◌<◌};
 ghost use Rattle.address_runs.specs.Runs.{RunOf};
 ghost use Rattle.e820_model.specs.Greater.{greater, greater_none, greater_alone, greater_grouped};
 
-use address_runs::{Overlay, Stretch};
+use address_runs::{Overlay, ValuedRange};
 use bm_base::Range;
 use std::marker::Model;
 
@@ -33,7 +33,7 @@ impl Model for Run {
     } };
 }
 
-impl Stretch for Run {
+impl ValuedRange for Run {
     type Value = u32;
 
     ghost run = { λ r. r };

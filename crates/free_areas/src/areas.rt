@@ -10,7 +10,7 @@ ghost use Rattle.buddy_blocks.specs.Buddies.{RemovesFrameSet};
 ghost use Rattle.free_areas.specs.Areas.{IndexesFreeBlocks};
 
 use crate::index::{
-    first_block_of_row, insert_block, insert_buddies, remove_and_expose_next, remove_buddies,
+    first_block_of_row, insert_block, insert_buddies, remove_and_add_next, remove_buddies,
 };
 use bm_base::{Memory, Zone};
 use buddy_blocks::{Block, FrameRun, MAX_FRAMES, MAX_ORDER, block_rows};
@@ -103,7 +103,7 @@ impl Areas {
             → behind ≡ block_of f (block.now.first + 2 ^ block.now.order) →
             IndexesFreeBlocks g self.new) }
     {
-        remove_and_expose_next(&mut self.blocks, block, behind)?;
+        remove_and_add_next(&mut self.blocks, block, behind)?;
         insert_buddies(&mut self.blocks, block, order, frame)
     }
 

@@ -50,7 +50,7 @@ fn remove_block(blocks: &mut BTreeSet<Block>, block: &Block)
 /// # Errors
 ///
 /// - `Memory`: the program ran out of memory.
-pub fn remove_and_expose_next(
+pub fn remove_and_add_next(
     blocks: &mut BTreeSet<Block>,
     block: &Block,
     behind: Option<Block>,

@@ -11,7 +11,7 @@ use Rattle.memblock_model.specs.Items.{owner_of, limit_of}
 use Rattle.memblock_model.specs.Tables.{without_owner, table_of, table_bytes}
 use Rattle.memblock_model.specs.Items.{upward_of}
 use Rattle.memblock_model.specs.Search.{top_place, best_place}
-use Rattle.memblock_model.proofs.SearchLaws.{IsPlace, either, top_place_in-fits, best_place_in-fits, fits_in-parts}
+use Rattle.memblock_model.proofs.SearchLaws.{IsPlace, either, outermost_fit-fits, best_place_in-fits, fits_in-parts}
 use Rattle.memblock_ranges.specs.Tables.{TablesView, bytes_of, table_range_in, OverlapsTable}
 use Rattle.growth_model.specs.Growth.{round_up_to_frames, frames_for_bytes, table_query, place_beside_range}
 use Rattle.memblock_model.specs.declared.query.Request.{Request}
@@ -30,7 +30,7 @@ pub top_place-fits : (items : List Item) (q : Query) (mirror : Bool) (place : �
     → IsPlace mirror (table_of which.Memory items) (table_of which.Reserved items) q place
 unfolding top_place
 top_place-fits items q mirror place found =
-    fits_in-parts mirror _ _ q place (top_place_in-fits (record { mirror = mirror; up = upward_of items }) _ _ q place found)
+    fits_in-parts mirror _ _ q place (outermost_fit-fits (record { mirror = mirror; up = upward_of items }) _ _ q place found)
 
 pub no_owner : (o : Option Owner) → without_owner o ≡ None → o ≡ None
 no_owner None e = refl

@@ -17,7 +17,7 @@ use Rattle.memblock_model.specs.Items.{owner_of}
 use Rattle.memblock_model.specs.Tables.{table_of, records_of, room_of, table_bytes}
 use Rattle.memblock_model.specs.declared.query.Query.{Query}
 use Rattle.memblock_model.specs.Search.{is_allowed_mirror, fits_in, top_place, best_place}
-use Rattle.memblock_model.proofs.SearchLaws.{IsLastBelow, fits_in-parts, fits_in-whole, top_place_in-last, top_place_in-mirrorless, best_place_in-last, best_place_in-fails, plain_or_none}
+use Rattle.memblock_model.proofs.SearchLaws.{IsLastBelow, fits_in-parts, fits_in-whole, outermost_fit-last, outermost_fit-mirrorless, best_place_in-last, best_place_in-fails, plain_or_none}
 use Rattle.memblock_model.proofs.TableLaws.{records_for-is}
 use Rattle.memblock_ranges.proofs.CountLaws.{few-pieces}
 use Rattle.growth_model.specs.declared.refusal.Refusal.TheVariants as refusal
@@ -89,12 +89,12 @@ window_top : (lo hi a : ℕ) → a + 8192 ≡ hi → hi ≤ 262144 → a % 4096 
     → top_place small (table_query 128 lo hi) false ≡ Some a
 unfolding top_place
 window_top lo hi a ends within aligned above low =
-    top_place_in-last false (table_of which.Memory small) (table_of which.Reserved small) (table_query 128 lo hi) a
+    outermost_fit-last false (table_of which.Memory small) (table_of which.Reserved small) (table_query 128 lo hi) a
     (window_last lo hi a ends within aligned above low)
 
 nothing_mirrored : (q : Query) → top_place small q true ≡ None
 unfolding top_place
-nothing_mirrored q = top_place_in-mirrorless false (table_of which.Memory small) (table_of which.Reserved small) q small_is_plain
+nothing_mirrored q = outermost_fit-mirrorless false (table_of which.Memory small) (table_of which.Reserved small) q small_is_plain
 
 -- if no address is in the window, nothing fits
 none_fits : (mirror : Bool) (items : List Item) (q : Query) → ((a : ℕ) → q.lo ≤ a → 4096 ≤ a → a + q.size ≤ q.hi → ⊥) → (a : ℕ)

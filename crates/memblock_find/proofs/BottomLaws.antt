@@ -6,9 +6,9 @@ use Rattle.std.proofs.lemmas.Nat.{div-add-mod', mod-mul-add, mod_below}
 use Rattle.std.proofs.lemmas.Bool.{cases_lt, false_from_ne_true, true≢false}
 use Rattle.address_runs.specs.Sweep.{HasValueBetween}
 use Rattle.memblock_model.specs.Labels.{LabelView, Labels}
-use Rattle.memblock_model.specs.Search.{fits_in, top_place_in}
+use Rattle.memblock_model.specs.Search.{fits_in, outermost_fit}
 use Rattle.memblock_model.specs.declared.query.Query.{Query}
-use Rattle.memblock_model.proofs.SearchLaws.{fits_in-parts, top_place_in-first, top_place_in-fails}
+use Rattle.memblock_model.proofs.SearchLaws.{fits_in-parts, outermost_fit-first, outermost_fit-fails}
 use Rattle.memblock_find.specs.Unclaimed.{unclaimed_memory, IsStretchWithTop}
 use Rattle.memblock_find.specs.Places.{FitsBetween, is_allowed_label, NoPlaceBeginsBetween, IsLowestPlaceFrom}
 use Rattle.memblock_find.proofs.PlaceLaws.{le_from_not_lt, label_of_place, held_somewhere, place_serves, place_of_bytes, some_align, mask_rest}
@@ -93,11 +93,11 @@ first_of_stretch mirror memory reserved q from until label found (Some a) some l
 pub lowest_answer : (mirror : Bool) (memory reserved : Labels) (q : Query) (at until : ℕ) (answer : Option ℕ) → 1 ≤ q.size
     → NoPlaceBeginsBetween mirror memory reserved q (max q.lo 4096) at
     → MatchOption answer (NoPlaceBeginsBetween mirror memory reserved q at until) (IsLowestPlaceFrom mirror memory reserved q at)
-    → is_some answer ≡ true → q.hi < 2 ^ 64 → answer ≡ top_place_in (record { mirror = mirror; up = true }) memory reserved q
+    → is_some answer ≡ true → q.hi < 2 ^ 64 → answer ≡ outermost_fit (record { mirror = mirror; up = true }) memory reserved q
 lowest_answer mirror memory reserved q at until None size past best some small = absurd (true≢false (sym some))
 lowest_answer mirror memory reserved q at until (Some a) size past best some small =
     let high = (fits_in-parts mirror memory reserved q a best.fits).high in
-    sym (top_place_in-first mirror memory reserved q a (record {
+    sym (outermost_fit-first mirror memory reserved q a (record {
       below = omega arith;
       passes = best.fits;
       first = λ b less fits.
@@ -116,9 +116,9 @@ none_yet mirror memory reserved q low at until (Some a) past best is = absurd (t
 -- if the walk has reached the window's end without a place, there is none
 pub none_at_all : (mirror : Bool) (memory reserved : Labels) (q : Query) (at : ℕ) → 1 ≤ q.size
     → NoPlaceBeginsBetween mirror memory reserved q (max q.lo 4096) at → q.hi ≤ at
-    → top_place_in (record { mirror = mirror; up = true }) memory reserved q ≡ None
+    → outermost_fit (record { mirror = mirror; up = true }) memory reserved q ≡ None
 none_at_all mirror memory reserved q at some past high =
-    top_place_in-fails (record { mirror = mirror; up = true }) memory reserved q (λ b less.
+    outermost_fit-fails (record { mirror = mirror; up = true }) memory reserved q (λ b less.
     false_from_ne_true (fits_in mirror memory reserved q b) (λ fits.
     let place = fits_in-parts mirror memory reserved q b fits in
     let begins = past b fits (omega (arith, place.low, place.first)) in

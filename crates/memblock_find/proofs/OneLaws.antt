@@ -11,7 +11,7 @@ use Rattle.memblock_model.specs.declared.owner.Which.TheVariants as which
 use Rattle.memblock_model.specs.Labels.{LabelView, Labels}
 use Rattle.memblock_model.specs.Items.{upward_of}
 use Rattle.memblock_model.specs.Tables.{table_of, records_of}
-use Rattle.memblock_model.specs.Search.{top_place_in, top_place, best_place_in, best_place}
+use Rattle.memblock_model.specs.Search.{outermost_fit, top_place, best_place_in, best_place}
 use Rattle.memblock_model.proofs.TableLaws.{value_at-records}
 use Rattle.memblock_ranges.specs.Tables.{TablesView}
 use Rattle.memblock_find.specs.Unclaimed.{unclaimed_memory, unclaimed_in_tables, IsRunBelow}
@@ -37,7 +37,7 @@ best_says items t q memory_ends reserved_ends memory reserved =
 pub top_says : (items : List Item) (t : TablesView) (q : Query) (mirror : Bool)
     → IsEmptyFrom (2 ^ 64) (table_of which.Memory items) → IsEmptyFrom (2 ^ 64) (table_of which.Reserved items)
     → t.memory.records ≡ records_of which.Memory items → t.reserved.records ≡ records_of which.Reserved items
-    → top_place_in (record { mirror = mirror; up = upward_of items }) (value_at t.memory.records) (value_at t.reserved.records) q
+    → outermost_fit (record { mirror = mirror; up = upward_of items }) (value_at t.memory.records) (value_at t.reserved.records) q
     ≡ top_place items q mirror
 unfolding top_place
 top_says items t q mirror memory_ends reserved_ends memory reserved =

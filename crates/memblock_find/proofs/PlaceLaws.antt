@@ -7,9 +7,9 @@ use Rattle.std.proofs.lemmas.Bool.{cases_lt, false_from_ne_true, true≢false, a
 use Rattle.address_runs.specs.Edits.{IsEmptyFrom}
 use Rattle.address_runs.specs.Sweep.{HasValueBetween}
 use Rattle.memblock_model.specs.Labels.{LabelView, Labels}
-use Rattle.memblock_model.specs.Search.{is_allowed_node, is_allowed_mirror, fits_in, top_place_in}
+use Rattle.memblock_model.specs.Search.{is_allowed_node, is_allowed_mirror, fits_in, outermost_fit}
 use Rattle.memblock_model.specs.declared.query.Query.{Query}
-use Rattle.memblock_model.proofs.SearchLaws.{IsPlace, fits_in-parts, fits_in-whole, top_place_in-last, top_place_in-fails}
+use Rattle.memblock_model.proofs.SearchLaws.{IsPlace, fits_in-parts, fits_in-whole, outermost_fit-last, outermost_fit-fails}
 use Rattle.memblock_find.specs.Unclaimed.{unclaimed_memory, IsStretchWithBottom}
 use Rattle.memblock_find.specs.Places.{FitsBetween, is_allowed_label, NoPlaceEndsBetween, IsHighestPlaceEndingBy}
 
@@ -169,9 +169,9 @@ best_of_stretch mirror memory reserved q from until label found (Some a) some wi
 -- if the walk has come below the window without a place, there is none
 pub none_found : (mirror : Bool) (memory reserved : Labels) (q : Query) (at : ℕ) → 1 ≤ q.size
     → NoPlaceEndsBetween mirror memory reserved q at q.hi
-    → at ≤ max q.lo 4096 → top_place_in (record { mirror = mirror; up = false }) memory reserved q ≡ None
+    → at ≤ max q.lo 4096 → outermost_fit (record { mirror = mirror; up = false }) memory reserved q ≡ None
 none_found mirror memory reserved q at some past low =
-    top_place_in-fails (record { mirror = mirror; up = false }) memory reserved q (λ b less.
+    outermost_fit-fails (record { mirror = mirror; up = false }) memory reserved q (λ b less.
     false_from_ne_true (fits_in mirror memory reserved q b) (λ fits.
     let place = fits_in-parts mirror memory reserved q b fits in
     let ends = past b fits place.high in
@@ -181,11 +181,11 @@ none_found mirror memory reserved q at some past low =
 pub best_answer : (mirror : Bool) (memory reserved : Labels) (q : Query) (from at : ℕ) (answer : Option ℕ)
     → NoPlaceEndsBetween mirror memory reserved q at q.hi
     → MatchOption answer (NoPlaceEndsBetween mirror memory reserved q from at) (IsHighestPlaceEndingBy mirror memory reserved q at)
-    → is_some answer ≡ true → q.hi < 2 ^ 64 → answer ≡ top_place_in (record { mirror = mirror; up = false }) memory reserved q
+    → is_some answer ≡ true → q.hi < 2 ^ 64 → answer ≡ outermost_fit (record { mirror = mirror; up = false }) memory reserved q
 best_answer mirror memory reserved q from at None past best some small = absurd (true≢false (sym some))
 best_answer mirror memory reserved q from at (Some a) past best some small =
     let high = (fits_in-parts mirror memory reserved q a best.fits).high in
-    sym (top_place_in-last mirror memory reserved q a (record {
+    sym (outermost_fit-last mirror memory reserved q a (record {
       below = omega arith;
       passes = best.fits;
       last = λ b less fits. best.last b fits (past b fits (fits_in-parts mirror memory reserved q b fits).high);

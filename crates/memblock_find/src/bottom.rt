@@ -5,13 +5,13 @@ ghost use Rattle.std.specs.Prelude.{◌≡◌, ◌≢◌, ℕ, ◌^◌, ◌≤�
 ghost use Rattle.address_runs.specs.Runs.{value_at};
 ghost use Rattle.address_runs.specs.Sweep.{HasValueBetween};
 ghost use Rattle.memblock_model.specs.Labels.{Labels};
-ghost use Rattle.memblock_model.specs.Search.{top_place_in};
+ghost use Rattle.memblock_model.specs.Search.{outermost_fit};
 ghost use Rattle.memblock_find.specs.Unclaimed.{unclaimed_memory, IsStretchWithTop};
 ghost use Rattle.memblock_find.specs.Places.{FitsBetween, NoPlaceBeginsBetween, IsLowestPlaceFrom};
 
 use crate::cursor::record_readers;
 use crate::node::is_allowed_label;
-use crate::up::cursor_from;
+use crate::up::start_walk_up;
 use bm_base::FRAME_SIZE;
 use memblock_model::{Label, Query};
 use memblock_ranges::Tables;
@@ -25,12 +25,12 @@ use memblock_ranges::Tables;
 pub fn find_upward(tables: &Tables, query: &Query, mirror: bool) -> Option<u64>
     requires some { 1 ≤ query.now.size }
     requires aligned { (k : ℕ) × (query.now.align ≡ 2 ^ k) }
-    ensures { result ≡ top_place_in (record { mirror = mirror; up = true })
+    ensures { result ≡ outermost_fit (record { mirror = mirror; up = true })
         (value_at tables.now.memory.records) (value_at tables.now.reserved.records) query.now }
 {
     let lists = record_readers(tables);
     let high = query.hi;
-    let mut cursor = cursor_from(&lists, query.lo.max(FRAME_SIZE));
+    let mut cursor = start_walk_up(&lists, query.lo.max(FRAME_SIZE));
     while cursor.at < high {
         let place = lowest_place_in_stretch(
             query,

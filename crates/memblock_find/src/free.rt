@@ -11,7 +11,7 @@ ghost use Rattle.memblock_find.specs.Unclaimed.{unclaimed_in_walk, unclaimed_mem
 
 use crate::cursor::{Cursor, RecordReaders, record_readers};
 use crate::down::start_walk_down;
-use crate::up::cursor_from;
+use crate::up::start_walk_up;
 use bm_base::Range;
 use memblock_model::Label;
 use memblock_ranges::{Tables, node_field};
@@ -121,7 +121,7 @@ fn next_free_in_readers(lists: &RecordReaders<'_>, from: u64) -> Option<FreeRang
         (IsRunFrom
         (unclaimed_memory (value_at lists.now.memory) (value_at lists.now.reserved)) from) }
 {
-    find_run_up(lists, cursor_from(lists, from)).run
+    find_run_up(lists, start_walk_up(lists, from)).run
 }
 
 /// The first run of unclaimed memory that a walk up has found, or `None`, and the position of the
@@ -189,7 +189,7 @@ impl FreeRuns<'_> {
             } }
     {
         let lists = record_readers(tables);
-        let cursor = cursor_from(&lists, at);
+        let cursor = start_walk_up(&lists, at);
         FreeRuns { lists, cursor }
     }
 

@@ -8,7 +8,7 @@ ghost use Rattle.memblock_model.specs.declared.owner.Which.TheVariants as which;
 ghost use Rattle.memblock_model.specs.Labels.{LabelView, Labels};
 ghost use Rattle.memblock_model.specs.Items.{upward_of};
 ghost use Rattle.memblock_model.specs.Tables.{table_of, records_of};
-ghost use Rattle.memblock_model.specs.Search.{top_place_in, top_place, best_place_in, best_place};
+ghost use Rattle.memblock_model.specs.Search.{outermost_fit, top_place, best_place_in, best_place};
 ghost use Rattle.memblock_ranges.specs.Tables.{TablesView};
 ghost use Rattle.memblock_find.specs.Unclaimed.{unclaimed_memory, unclaimed_in_tables, IsRunBelow, IsRunFrom};
 
@@ -28,7 +28,7 @@ pub fn searches_follow_the_items()
         → IsEmptyFrom (2 ^ 64) (table_of which.Reserved items) →
         t.memory.records ≡ records_of which.Memory items
         → t.reserved.records ≡ records_of which.Reserved items →
-        top_place_in (record { mirror = mirror; up = upward_of items }) (value_at t.memory.records)
+        outermost_fit (record { mirror = mirror; up = upward_of items }) (value_at t.memory.records)
         (value_at t.reserved.records) q ≡
         top_place items q mirror }
     ensures free { (items : List Item) (t : TablesView) →

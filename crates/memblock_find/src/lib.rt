@@ -12,7 +12,7 @@
 //!   an address on (`for_each_free_mem_range`). [`FreeRuns`] returns all runs from an address up,
 //!   one after another, and searches only once.
 //!
-//! Contracts define the result of [`find`] by `top_place_in` of `memblock_model`, applied to the
+//! Contracts define the result of [`find`] by `outermost_fit` of `memblock_model`, applied to the
 //! labels that the records give each address. `specs/Unclaimed.antt` defines unclaimed memory and
 //! its runs. The layer above may rest on these definitions, and on the laws of `src/laws.rt`. A law
 //! is an empty function whose contract is a proven fact. In contracts, a name means the definition

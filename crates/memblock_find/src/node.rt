@@ -3,7 +3,7 @@
 //! table again only when it has found memory that it may return.
 ghost use Rattle.std.specs.Prelude.{◌≡◌, ℕ, ◌-◌, ◌^◌, ◌<◌, ◌≤◌, false, max, Some, None, length};
 ghost use Rattle.address_runs.specs.Runs.{run_end, value_at};
-ghost use Rattle.memblock_model.specs.Search.{top_place_in};
+ghost use Rattle.memblock_model.specs.Search.{outermost_fit};
 ghost use Rattle.memblock_find.specs.Places.{is_allowed_label, NoAddressIsAllowed};
 ghost use Rattle.memblock_find.specs.Walk.{nth_record, IsWalkDownAt};
 
@@ -125,7 +125,7 @@ pub fn find_restricted_downward(tables: &Tables, query: &Query, mirror: bool) ->
     requires narrow { is_allowed_label mirror query.now.node None ≡ false }
     requires some { 1 ≤ query.now.size }
     requires aligned { (k : ℕ) × (query.now.align ≡ 2 ^ k) }
-    ensures { result ≡ top_place_in (record { mirror = mirror; up = false })
+    ensures { result ≡ outermost_fit (record { mirror = mirror; up = false })
         (value_at tables.now.memory.records) (value_at tables.now.reserved.records) query.now }
 {
     let lists = record_readers(tables);

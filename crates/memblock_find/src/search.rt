@@ -7,7 +7,7 @@ ghost use Rattle.std.specs.Prelude.{◌≡◌, ◌≢◌, ℕ, ◌^◌, ◌≤�
 ghost use Rattle.address_runs.specs.Runs.{value_at};
 ghost use Rattle.address_runs.specs.Sweep.{HasValueBetween};
 ghost use Rattle.memblock_model.specs.Labels.{Labels};
-ghost use Rattle.memblock_model.specs.Search.{top_place_in};
+ghost use Rattle.memblock_model.specs.Search.{outermost_fit};
 ghost use Rattle.memblock_find.specs.Unclaimed.{unclaimed_memory, IsStretchWithBottom};
 ghost use Rattle.memblock_find.specs.Places.{FitsBetween, NoPlaceEndsBetween, IsHighestPlaceEndingBy};
 
@@ -29,7 +29,7 @@ use memblock_ranges::Tables;
 pub fn find(tables: &Tables, query: &Query, mode: Mode) -> Option<u64>
     requires some { 1 ≤ query.now.size }
     requires aligned { (k : ℕ) × (query.now.align ≡ 2 ^ k) }
-    ensures { result ≡ top_place_in mode (value_at tables.now.memory.records)
+    ensures { result ≡ outermost_fit mode (value_at tables.now.memory.records)
         (value_at tables.now.reserved.records) query.now }
 {
     let Mode { mirror, up } = mode;
@@ -47,7 +47,7 @@ pub fn find(tables: &Tables, query: &Query, mode: Mode) -> Option<u64>
 fn find_any_downward(lists: &RecordReaders<'_>, query: &Query) -> Option<u64>
     requires some { 1 ≤ query.now.size }
     requires aligned { (k : ℕ) × (query.now.align ≡ 2 ^ k) }
-    ensures { result ≡ top_place_in (record { mirror = false; up = false })
+    ensures { result ≡ outermost_fit (record { mirror = false; up = false })
         (value_at lists.now.memory) (value_at lists.now.reserved) query.now }
 {
     let low = query.lo.max(FRAME_SIZE);

@@ -73,7 +73,7 @@ fn look_after_move(records: &Records<'_>, look: Look, from: u64, at: u64) -> Loo
 
 /// Returns the position of a walk up that starts at address `at`. It takes a binary search in each
 /// table.
-pub fn cursor_from(lists: &RecordReaders<'_>, at: u64) -> Cursor
+pub fn start_walk_up(lists: &RecordReaders<'_>, at: u64) -> Cursor
     ensures at { result.at ≡ at }
     ensures up { IsWalkUpAt lists.now.memory lists.now.reserved result }
 {

@@ -16,7 +16,7 @@ use Rattle.memblock_model.specs.Labels.{Labels}
 use Rattle.memblock_model.specs.Same.{same_which}
 use Rattle.memblock_model.specs.Tables.{room_of, room_after, moved_to, moved_after, built_in_place}
 use Rattle.memblock_model.specs.Search.{is_allowed_mirror, fits_in, best_place_in, top_place, best_place}
-use Rattle.memblock_model.proofs.SearchLaws.{top_place_in-mirrorless, best_place_in-fits, best_place_in-fails, fits_in-parts}
+use Rattle.memblock_model.proofs.SearchLaws.{outermost_fit-mirrorless, best_place_in-fits, best_place_in-fails, fits_in-parts}
 use Rattle.memblock_ranges.specs.Tables.{TablesView, room_in, place_in}
 use Rattle.boot_journal.specs.Mirrors.{has_mirrors}
 use Rattle.boot_journal.proofs.MirrorLaws.{unmirrored}
@@ -44,7 +44,7 @@ pub top_place-mirrorless : (items : List Item) (t : TablesView) (up : Bool) (q :
     → has_mirrors items ≡ false
     → mirrored_place_in_tables t up q ≡ None
 top_place-mirrorless items t up q knows none =
-    top_place_in-mirrorless up (value_at t.memory.records) (value_at t.reserved.records) q (knows none)
+    outermost_fit-mirrorless up (value_at t.memory.records) (value_at t.reserved.records) q (knows none)
 
 module _ {kernel : RangeView} {items : List Item} {t : TablesView} {at : AllocSettings} (kept : TablesMatchItems kernel items t at) where
   -- the memory table has mirrored memory only if an item mirrors memory

@@ -6,7 +6,7 @@ use Rattle.bm_base.specs.Range.{RangeView, end_of}
 use Rattle.address_runs.specs.Runs.{value_at}
 use Rattle.memblock_model.specs.declared.query.Query.{Query}
 use Rattle.memblock_model.specs.declared.item.Item.{Item}
-use Rattle.memblock_model.specs.Search.{is_allowed_mirror, top_place_in, best_place_in}
+use Rattle.memblock_model.specs.Search.{is_allowed_mirror, outermost_fit, best_place_in}
 use Rattle.boot_journal.specs.Mirrors.{has_mirrors}
 use Rattle.memblock_ranges.specs.Tables.{TablesView}
 use Rattle.growth_model.specs.Growth.{frames_for_bytes, table_query}
@@ -21,7 +21,7 @@ MirrorsComeFromItems items t = has_mirrors items ≡ false → (x : ℕ) → is_
 -- reserved table doesn't.
 abbrev pub top_place_in_tables : TablesView → Bool → Attempt → Option ℕ
 top_place_in_tables t up a =
-    top_place_in (record { mirror = a.mirror; up = up }) (value_at t.memory.records) (value_at t.reserved.records) a.query
+    outermost_fit (record { mirror = a.mirror; up = up }) (value_at t.memory.records) (value_at t.reserved.records) a.query
 
 -- the address that a search for this query finds in mirrored memory, or None
 abbrev pub mirrored_place_in_tables : TablesView → Bool → Query → Option ℕ

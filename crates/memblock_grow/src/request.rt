@@ -28,7 +28,7 @@ use memblock_ranges::Tables;
 /// `lo` on, on `node` (or on any node if it is `None`), and only in mirrored memory if `mirror` is
 /// true. It finds the highest address at which the request fits, or the lowest if searches go
 /// upward.
-fn place_of_attempt(
+fn find_once(
     tables: &Tables,
     request: &Request,
     aim: AllocSettings,
@@ -56,7 +56,7 @@ fn place_of_attempt(
 /// Returns the address that is found from `lo` on, or `None`. The first search is on the request's
 /// node. If it finds nothing, and the request allows other nodes, a second one is on any node. If
 /// `mirror` is true, both search only mirrored memory.
-fn place_in(
+fn find_on_nodes(
     tables: &Tables,
     request: &Request,
     aim: AllocSettings,
@@ -68,11 +68,11 @@ fn place_in(
     ensures { result ≡ first_place_in_tables tables.now aim.upward
         (node_attempts request.now aim.limit lo mirror) }
 {
-    let place = place_of_attempt(tables, request, aim, lo, mirror, request.node);
+    let place = find_once(tables, request, aim, lo, mirror, request.node);
     if place.is_some() || request.node.is_none() || request.exact {
         return place;
     }
-    place_of_attempt(tables, request, aim, lo, mirror, None)
+    find_once(tables, request, aim, lo, mirror, None)
 }
 
 /// Returns the address that is found in mirrored memory from `lo` on, or `None`: on the request's
@@ -94,12 +94,12 @@ fn mirrored_place(
     if !journal.has_mirrors() {
         return None;
     }
-    place_in(tables, request, aim, lo, true)
+    find_on_nodes(tables, request, aim, lo, true)
 }
 
 /// Returns the address that one round of searches finds from `lo` on, or `None`. The round searches
 /// mirrored memory first, then any memory.
-fn place_in_round(
+fn find_in_round(
     journal: &Journal,
     tables: &Tables,
     request: &Request,
@@ -115,7 +115,7 @@ fn place_in_round(
     if let Some(place) = mirrored_place(journal, tables, request, aim, lo) {
         return Some(place);
     }
-    place_in(tables, request, aim, lo, false)
+    find_on_nodes(tables, request, aim, lo, false)
 }
 
 /// Returns the address that the first round finds, from the request's minimum on, or else the one
@@ -132,11 +132,11 @@ fn place_for(
     ensures { result
         ≡ first_place_in_tables tables.now aim.upward (attempts request.now aim.limit) }
 {
-    let place = place_in_round(journal, tables, request, aim, request.min);
+    let place = find_in_round(journal, tables, request, aim, request.min);
     if place.is_some() || request.min == 0 {
         return place;
     }
-    place_in_round(journal, tables, request, aim, 0)
+    find_in_round(journal, tables, request, aim, 0)
 }
 
 /// Finds free memory for the request, claims it for the owner, and returns its address

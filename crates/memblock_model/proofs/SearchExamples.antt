@@ -12,8 +12,8 @@ use Rattle.bm_base.specs.Each.{each_from, each_in}
 use Rattle.memblock_model.specs.Labels.{LabelView, Labels, plain_label, with_node, with_mirror}
 use Rattle.memblock_model.specs.Items.{no_memory}
 use Rattle.memblock_model.specs.Tables.{table_of}
-use Rattle.memblock_model.specs.Search.{is_allowed_mirror, fits_in, top_place_in, fits, best_place}
-use Rattle.memblock_model.proofs.SearchLaws.{fits_in-parts, top_place_in-first, best_place_in-plain, best_place_in-last, best_place_in-fails, plain_or_none}
+use Rattle.memblock_model.specs.Search.{is_allowed_mirror, fits_in, outermost_fit, fits, best_place}
+use Rattle.memblock_model.proofs.SearchLaws.{fits_in-parts, outermost_fit-first, best_place_in-plain, best_place_in-last, best_place_in-fails, plain_or_none}
 use Rattle.memblock_model.proofs.ItemExamples.{bytes}
 
 abbrev of_node : ℕ → LabelView
@@ -111,10 +111,10 @@ page_fits_low : fits turned page false 0x1000 ≡ true
 unfolding fits fits_in each_in each_from
 page_fits_low = refl
 
-lowest_page : top_place_in (record { mirror = false; up = true }) (table_of which.Memory turned) (table_of which.Reserved turned) page
+lowest_page : outermost_fit (record { mirror = false; up = true }) (table_of which.Memory turned) (table_of which.Reserved turned) page
     ≡ Some 0x1000
 unfolding fits
-lowest_page = top_place_in-first false (table_of which.Memory turned) (table_of which.Reserved turned) page 0x1000 (record {
+lowest_page = outermost_fit-first false (table_of which.Memory turned) (table_of which.Reserved turned) page 0x1000 (record {
   below = omega arith;
   passes = page_fits_low;
   first = λ b lt h. (fits_in-parts false (table_of which.Memory turned) (table_of which.Reserved turned) page b h).first;

@@ -12,7 +12,7 @@ use Rattle.bm_base.specs.Each.{each_in}
 use Rattle.memblock_model.specs.Labels.{LabelView, Labels, plain_label}
 use Rattle.memblock_model.specs.Same.{same_label}
 use Rattle.memblock_model.specs.declared.query.Mode.{Mode}
-use Rattle.memblock_model.specs.Search.{last_below, first_below, outermost_below, is_allowed_node, is_allowed_mirror, fits_in, top_place_in, best_place_in}
+use Rattle.memblock_model.specs.Search.{last_below, first_below, outermost_below, is_allowed_node, is_allowed_mirror, fits_in, outermost_fit, best_place_in}
 use Rattle.memblock_model.proofs.SameLaws.{same_label_decides_equality}
 use Rattle.bm_base.proofs.EachLaws.{each_in-all, each_in-each}
 
@@ -274,45 +274,45 @@ outermost_below-fails true p n none = first_below-fails p n none
 outermost_below-fails false p n none = last_below-fails p n none
 
 -- a query fits at its top place, and at no address beyond it
-pub top_place_in-fits : (mode : Mode) (memory reserved : Labels) (q : Query) (a : ℕ) → top_place_in mode memory reserved q ≡ Some a
+pub outermost_fit-fits : (mode : Mode) (memory reserved : Labels) (q : Query) (a : ℕ) → outermost_fit mode memory reserved q ≡ Some a
     → fits_in mode.mirror memory reserved q a ≡ true
-unfolding top_place_in
-top_place_in-fits mode memory reserved q a h = outermost_below-passes mode.up (fits_in mode.mirror memory reserved q) (2 ^ 64) a h
+unfolding outermost_fit
+outermost_fit-fits mode memory reserved q a h = outermost_below-passes mode.up (fits_in mode.mirror memory reserved q) (2 ^ 64) a h
 
-pub top_place_in-none : (mode : Mode) (memory reserved : Labels) (q : Query) → top_place_in mode memory reserved q ≡ None → (b : ℕ)
+pub outermost_fit-none : (mode : Mode) (memory reserved : Labels) (q : Query) → outermost_fit mode memory reserved q ≡ None → (b : ℕ)
     → b < 2 ^ 64
     → fits_in mode.mirror memory reserved q b ≡ false
-unfolding top_place_in
-top_place_in-none mode memory reserved q h b lt = outermost_below-none mode.up (fits_in mode.mirror memory reserved q) (2 ^ 64) h b lt
+unfolding outermost_fit
+outermost_fit-none mode memory reserved q h b lt = outermost_below-none mode.up (fits_in mode.mirror memory reserved q) (2 ^ 64) h b lt
 
-pub top_place_in-fails : (mode : Mode) (memory reserved : Labels) (q : Query)
-    → ((b : ℕ) → b < 2 ^ 64 → fits_in mode.mirror memory reserved q b ≡ false) → top_place_in mode memory reserved q ≡ None
-unfolding top_place_in
-top_place_in-fails mode memory reserved q none = outermost_below-fails mode.up (fits_in mode.mirror memory reserved q) (2 ^ 64) none
+pub outermost_fit-fails : (mode : Mode) (memory reserved : Labels) (q : Query)
+    → ((b : ℕ) → b < 2 ^ 64 → fits_in mode.mirror memory reserved q b ≡ false) → outermost_fit mode memory reserved q ≡ None
+unfolding outermost_fit
+outermost_fit-fails mode memory reserved q none = outermost_below-fails mode.up (fits_in mode.mirror memory reserved q) (2 ^ 64) none
 
 -- how to show that an address is the top place: it is the greatest one at which the query fits, or
 -- the least if the search goes up
-pub top_place_in-last : (mirror : Bool) (memory reserved : Labels) (q : Query) (a : ℕ)
+pub outermost_fit-last : (mirror : Bool) (memory reserved : Labels) (q : Query) (a : ℕ)
     → IsLastBelow (fits_in mirror memory reserved q) (2 ^ 64) a
-    → top_place_in (record { mirror = mirror; up = false }) memory reserved q ≡ Some a
-unfolding top_place_in
-top_place_in-last mirror memory reserved q a known = last_below-last (fits_in mirror memory reserved q) (2 ^ 64) a known
+    → outermost_fit (record { mirror = mirror; up = false }) memory reserved q ≡ Some a
+unfolding outermost_fit
+outermost_fit-last mirror memory reserved q a known = last_below-last (fits_in mirror memory reserved q) (2 ^ 64) a known
 
-pub top_place_in-first : (mirror : Bool) (memory reserved : Labels) (q : Query) (a : ℕ)
+pub outermost_fit-first : (mirror : Bool) (memory reserved : Labels) (q : Query) (a : ℕ)
     → IsFirstBelow (fits_in mirror memory reserved q) (2 ^ 64) a
-    → top_place_in (record { mirror = mirror; up = true }) memory reserved q ≡ Some a
-unfolding top_place_in
-top_place_in-first mirror memory reserved q a known = first_below-first (fits_in mirror memory reserved q) (2 ^ 64) a known
+    → outermost_fit (record { mirror = mirror; up = true }) memory reserved q ≡ Some a
+unfolding outermost_fit
+outermost_fit-first mirror memory reserved q a known = first_below-first (fits_in mirror memory reserved q) (2 ^ 64) a known
 
 -- the best place is the top place of mirrored memory, or else that of any memory
 pub best_place_in-mirrored : (up : Bool) (memory reserved : Labels) (q : Query) (a : ℕ)
-    → top_place_in (record { mirror = true; up = up }) memory reserved q ≡ Some a → best_place_in up memory reserved q ≡ Some a
+    → outermost_fit (record { mirror = true; up = up }) memory reserved q ≡ Some a → best_place_in up memory reserved q ≡ Some a
 unfolding best_place_in
 best_place_in-mirrored up memory reserved q a h = rw h refl
 
 pub best_place_in-other : (up : Bool) (memory reserved : Labels) (q : Query)
-    → top_place_in (record { mirror = true; up = up }) memory reserved q ≡ None
-    → best_place_in up memory reserved q ≡ top_place_in (record { mirror = false; up = up }) memory reserved q
+    → outermost_fit (record { mirror = true; up = up }) memory reserved q ≡ None
+    → best_place_in up memory reserved q ≡ outermost_fit (record { mirror = false; up = up }) memory reserved q
 unfolding best_place_in
 best_place_in-other up memory reserved q h = rw h refl
 
@@ -321,12 +321,12 @@ pub best_place_in-fits : (up : Bool) (memory reserved : Labels) (q : Query) (a :
     → fits_in false memory reserved q a ≡ true
 unfolding best_place_in
 best_place_in-fits up memory reserved q a h =
-    elim (either (top_place_in (record { mirror = true; up = up }) memory reserved q)
-    (top_place_in (record { mirror = false; up = up }) memory reserved q) a h)
+    elim (either (outermost_fit (record { mirror = true; up = up }) memory reserved q)
+    (outermost_fit (record { mirror = false; up = up }) memory reserved q) a h)
     as (λ _. fits_in false memory reserved q a ≡ true) [
       | inl mirrored ↦ fits_unmirrored true memory reserved q a
-          (top_place_in-fits (record { mirror = true; up = up }) memory reserved q a mirrored)
-      | inr other ↦ top_place_in-fits (record { mirror = false; up = up }) memory reserved q a other
+          (outermost_fit-fits (record { mirror = true; up = up }) memory reserved q a mirrored)
+      | inr other ↦ outermost_fit-fits (record { mirror = false; up = up }) memory reserved q a other
     ]
 
 pub best_place_in-none : (up : Bool) (memory reserved : Labels) (q : Query) → best_place_in up memory reserved q ≡ None → (b : ℕ)
@@ -334,16 +334,16 @@ pub best_place_in-none : (up : Bool) (memory reserved : Labels) (q : Query) → 
     → fits_in false memory reserved q b ≡ false
 unfolding best_place_in
 best_place_in-none up memory reserved q h b lt =
-    top_place_in-none (record { mirror = false; up = up }) memory reserved q (neither _ _ h) b lt
+    outermost_fit-none (record { mirror = false; up = up }) memory reserved q (neither _ _ h) b lt
 
 pub best_place_in-fails : (up : Bool) (memory reserved : Labels) (q : Query)
     → ((b : ℕ) → b < 2 ^ 64 → fits_in false memory reserved q b ≡ false)
     → best_place_in up memory reserved q ≡ None
 unfolding best_place_in
 best_place_in-fails up memory reserved q none =
-    rw (top_place_in-fails (record { mirror = true; up = up }) memory reserved q
+    rw (outermost_fit-fails (record { mirror = true; up = up }) memory reserved q
     (λ b lt. fits_in-unmirrored_fails true memory reserved q b (none b lt)))
-    (top_place_in-fails (record { mirror = false; up = up }) memory reserved q none)
+    (outermost_fit-fails (record { mirror = false; up = up }) memory reserved q none)
 
 -- no place in mirrored memory has bytes with a plain label
 pub plain_or_none : (b : Bool) → is_allowed_mirror true (if b then Some plain_label else None) ≡ false
@@ -351,18 +351,19 @@ plain_or_none true = refl
 plain_or_none false = refl
 
 -- if no memory is mirrored, the best place is the top place of any memory
-pub top_place_in-mirrorless : (up : Bool) (memory reserved : Labels) (q : Query) → ((x : ℕ) → is_allowed_mirror true (memory x) ≡ false)
-    → top_place_in (record { mirror = true; up = up }) memory reserved q ≡ None
-top_place_in-mirrorless up memory reserved q none = top_place_in-fails (record { mirror = true; up = up }) memory reserved q
+pub outermost_fit-mirrorless : (up : Bool) (memory reserved : Labels) (q : Query) → ((x : ℕ) → is_allowed_mirror true (memory x) ≡ false)
+    → outermost_fit (record { mirror = true; up = up }) memory reserved q ≡ None
+outermost_fit-mirrorless up memory reserved q none = outermost_fit-fails (record { mirror = true; up = up }) memory reserved q
     (λ b lt. fits_in-mirror_fails true memory reserved q b (none b))
 
 pub best_place_in-plain : (up : Bool) (memory reserved : Labels) (q : Query) → ((x : ℕ) → is_allowed_mirror true (memory x) ≡ false)
-    → best_place_in up memory reserved q ≡ top_place_in (record { mirror = false; up = up }) memory reserved q
-best_place_in-plain up memory reserved q none = best_place_in-other up memory reserved q (top_place_in-mirrorless up memory reserved q none)
+    → best_place_in up memory reserved q ≡ outermost_fit (record { mirror = false; up = up }) memory reserved q
+best_place_in-plain up memory reserved q none =
+    best_place_in-other up memory reserved q (outermost_fit-mirrorless up memory reserved q none)
 
 -- how to show that an address is the best place if no memory is mirrored: it is the greatest one
 -- at which the query fits
 pub best_place_in-last : (memory reserved : Labels) (q : Query) (a : ℕ) → ((x : ℕ) → is_allowed_mirror true (memory x) ≡ false)
     → IsLastBelow (fits_in false memory reserved q) (2 ^ 64) a → best_place_in false memory reserved q ≡ Some a
 best_place_in-last memory reserved q a none known =
-    best_place_in-plain false memory reserved q none ∙ top_place_in-last false memory reserved q a known
+    best_place_in-plain false memory reserved q none ∙ outermost_fit-last false memory reserved q a known

@@ -56,24 +56,24 @@ fits_in mirror memory reserved q a =
     && each_in (record { base = a; size = q.size }) (λ x. agree same_label (memory x) (memory a) && is_none (reserved x))
 
 -- the greatest address at which the query fits, or the least if the search goes up
-unfoldable pub top_place_in : Mode → Labels → Labels → Query → Option ℕ
-top_place_in mode memory reserved q = outermost_below mode.up (fits_in mode.mirror memory reserved q) (2 ^ 64)
+unfoldable pub outermost_fit : Mode → Labels → Labels → Query → Option ℕ
+outermost_fit mode memory reserved q = outermost_below mode.up (fits_in mode.mirror memory reserved q) (2 ^ 64)
 
 -- the greatest (or, if `up`, least) address at which the query fits in mirrored memory or, if it
 -- fits nowhere there, in any memory
 unfoldable pub best_place_in : Bool → Labels → Labels → Query → Option ℕ
 best_place_in up memory reserved q =
-    option_or (top_place_in (record { mirror = true; up = up }) memory reserved q)
-    (top_place_in (record { mirror = false; up = up }) memory reserved q)
+    option_or (outermost_fit (record { mirror = true; up = up }) memory reserved q)
+    (outermost_fit (record { mirror = false; up = up }) memory reserved q)
 
--- `fits_in`, `top_place_in` and `best_place_in` with the tables and the search direction that the
+-- `fits_in`, `outermost_fit` and `best_place_in` with the tables and the search direction that the
 -- items give
 unfoldable pub fits : List Item → Query → Bool → ℕ → Bool
 fits items q mirror a = fits_in mirror (table_of which.Memory items) (table_of which.Reserved items) q a
 
 unfoldable pub top_place : List Item → Query → Bool → Option ℕ
 top_place items q mirror =
-    top_place_in (record { mirror = mirror; up = upward_of items }) (table_of which.Memory items) (table_of which.Reserved items) q
+    outermost_fit (record { mirror = mirror; up = upward_of items }) (table_of which.Memory items) (table_of which.Reserved items) q
 
 unfoldable pub best_place : List Item → Query → Option ℕ
 best_place items q = best_place_in (upward_of items) (table_of which.Memory items) (table_of which.Reserved items) q

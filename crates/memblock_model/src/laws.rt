@@ -14,7 +14,7 @@ ghost use Rattle.memblock_model.specs.Labels.{Labels};
 ghost use Rattle.memblock_model.specs.Same.{same_label, same_owner};
 ghost use Rattle.memblock_model.specs.Items.{trim_frames, owners_after, owner_of, memory_after, memory_of, limit_after, limit_of, upward_after, upward_of, owner_runs_of};
 ghost use Rattle.memblock_model.specs.Tables.{table_of, table_after, room_of, room_after, moved_to, moved_after, records_of};
-ghost use Rattle.memblock_model.specs.Search.{is_allowed_mirror, fits_in, top_place_in, best_place_in};
+ghost use Rattle.memblock_model.specs.Search.{is_allowed_mirror, fits_in, outermost_fit, best_place_in};
 
 /// Law: the state after a list of items and one more item follows from the state after the list and
 /// from that last item alone. The state is the owner and the label of each byte, the limit of
@@ -65,42 +65,43 @@ pub fn trimmed_frame_is_whole()
         trim_frames f y ≡ trim_frames f x }
 {}
 
-/// Law: the address that `top_place_in` returns fits the query, and it is the greatest address that
-/// does, or the lowest if the search goes up. If it returns `None`, no address below 2^64 fits.
+/// Law: the address that `outermost_fit` returns fits the query, and it is the greatest address
+/// that does, or the lowest if the search goes up. If it returns `None`, no address below 2^64
+/// fits.
 pub fn top_is_outermost()
     ensures fits { (mode : Mode) (memory reserved : Labels) (q : Query) (a : ℕ) →
-        top_place_in mode memory reserved q ≡ Some a →
+        outermost_fit mode memory reserved q ≡ Some a →
         fits_in mode.mirror memory reserved q a ≡ true }
     ensures greatest { (mode : Mode) (memory reserved : Labels) (q : Query) (a b : ℕ) →
         mode.up ≡ false →
-        top_place_in mode memory reserved q ≡ Some a → b < 2 ^ 64 →
+        outermost_fit mode memory reserved q ≡ Some a → b < 2 ^ 64 →
         fits_in mode.mirror memory reserved q b ≡ true → b ≤ a }
     ensures least { (mode : Mode) (memory reserved : Labels) (q : Query) (a b : ℕ) →
         mode.up ≡ true →
-        top_place_in mode memory reserved q ≡ Some a → b < 2 ^ 64 →
+        outermost_fit mode memory reserved q ≡ Some a → b < 2 ^ 64 →
         fits_in mode.mirror memory reserved q b ≡ true → a ≤ b }
     ensures none { (mode : Mode) (memory reserved : Labels) (q : Query) (b : ℕ) →
-        top_place_in mode memory reserved q ≡ None → b < 2 ^ 64 →
+        outermost_fit mode memory reserved q ≡ None → b < 2 ^ 64 →
         fits_in mode.mirror memory reserved q b ≡ false }
 {}
 
-/// Law: `best_place_in` returns the address that `top_place_in` finds in mirrored memory or, if it
+/// Law: `best_place_in` returns the address that `outermost_fit` finds in mirrored memory or, if it
 /// finds none there, the one that it finds in any memory. The query fits at that address. If
 /// `best_place_in` returns `None`, the query fits at no address below 2^64.
 pub fn best_is_mirrored_first()
     ensures fits { (up : Bool) (memory reserved : Labels) (q : Query) (a : ℕ) →
         best_place_in up memory reserved q ≡ Some a → fits_in false memory reserved q a ≡ true }
     ensures mirrored { (up : Bool) (memory reserved : Labels) (q : Query) (a : ℕ) →
-        top_place_in (record { mirror = true; up = up }) memory reserved q ≡ Some a →
+        outermost_fit (record { mirror = true; up = up }) memory reserved q ≡ Some a →
         best_place_in up memory reserved q ≡ Some a }
     ensures other { (up : Bool) (memory reserved : Labels) (q : Query) →
-        top_place_in (record { mirror = true; up = up }) memory reserved q ≡ None →
+        outermost_fit (record { mirror = true; up = up }) memory reserved q ≡ None →
         best_place_in up memory reserved q
-        ≡ top_place_in (record { mirror = false; up = up }) memory reserved q }
+        ≡ outermost_fit (record { mirror = false; up = up }) memory reserved q }
     ensures unmirrored { (up : Bool) (memory reserved : Labels) (q : Query) →
         ((x : ℕ) → is_allowed_mirror true (memory x) ≡ false) →
         best_place_in up memory reserved q
-        ≡ top_place_in (record { mirror = false; up = up }) memory reserved q }
+        ≡ outermost_fit (record { mirror = false; up = up }) memory reserved q }
     ensures none { (up : Bool) (memory reserved : Labels) (q : Query) (b : ℕ) →
         best_place_in up memory reserved q ≡ None → b < 2 ^ 64 →
         fits_in false memory reserved q b ≡ false }

@@ -1,7 +1,7 @@
 //! A range and its owner: an entry in the journal's list of owners.
 
 use crate::Owner;
-use address_runs::Stretch;
+use address_runs::ValuedRange;
 use bm_base::Range;
 use std::marker::Model;
 
@@ -30,7 +30,7 @@ impl Model for OwnerRun {
     } };
 }
 
-impl Stretch for OwnerRun {
+impl ValuedRange for OwnerRun {
     type Value = Owner;
 
     ghost run = { λ r. r };

@@ -8,7 +8,7 @@ use Rattle.address_runs.specs.Runs.{RunOf, run_end, value_at, IsRunsOf}
 use Rattle.address_runs.specs.Edits.{cover_range, uncover_range, relabel_range, gaps_in_range, IsEmptyFrom}
 use Rattle.address_runs.specs.Sweep.{IsSweptTo}
 use Rattle.address_runs.proofs.SweepLaws.{swept_none}
-use Rattle.run_edits.specs.Records.{stretch}
+use Rattle.run_edits.specs.Records.{run_or_none}
 use Rattle.run_edits.specs.Ends.{run_ends_between, run_ends_at, total, one_right_below}
 use Rattle.run_edits.proofs.EndLaws.{total-alike, total-fewer, total-add, total-quiet, spikes_few, all_ends}
 use Rattle.run_edits.proofs.CountLaws.{covered_length, uncovered_length, relabelled_length}
@@ -38,8 +38,8 @@ unfolding records_for
 length-relabelled r change f none = relabelled_length same_label same_label_decides_equality r change f none
 
 -- each record is cut to one record or to none
-one_stretch : (start until : ℕ) (v : LabelView) → length (stretch start until (Some v)) ≤ 1
-one_stretch start until v = elim (cases_Bool (nat_lt start until)) as (λ _. length (stretch start until (Some v)) ≤ 1) [
+one_stretch : (start until : ℕ) (v : LabelView) → length (run_or_none start until (Some v)) ≤ 1
+one_stretch start until v = elim (cases_Bool (nat_lt start until)) as (λ _. length (run_or_none start until (Some v)) ≤ 1) [
   | inl some ↦ rw some (omega arith)
   | inr none ↦ rw none (omega arith)
 ]
@@ -50,7 +50,7 @@ cut_few f at [] xs turns swept = (xs, trim_all f at xs swept turns, omega arith)
 cut_few f at (r ∷ rs) xs turns swept =
     let up : ℕ = r.base + (4096 - r.base % 4096) % 4096 in
     let down : ℕ = run_end r - run_end r % 4096 in
-    let one = stretch up down (Some r.value) in
+    let one = run_or_none up down (Some r.value) in
     let next = cut_few f (run_end r) rs (xs ++ one) (turns_next f at r rs turns)
     (trim_step f at r rs turns up down refl refl up down xs swept (λ some. refl) refl (λ none. none)) in
     let few = one_stretch up down r.value in

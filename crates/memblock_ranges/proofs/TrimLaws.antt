@@ -6,7 +6,7 @@ use Rattle.address_runs.specs.Runs.{RunOf, run_end, value_at, AreRuns, IsRunsOf}
 use Rattle.address_runs.specs.Sweep.{StartAtOrPast, IsSweptTo}
 use Rattle.address_runs.proofs.RunsLaws.{inside, behind, none_below, rest_from, another_value_at_run_end, start_zero}
 use Rattle.address_runs.proofs.SweepLaws.{swept_over, swept_all}
-use Rattle.run_edits.specs.Records.{stretch}
+use Rattle.run_edits.specs.Records.{run_or_none}
 use Rattle.run_edits.proofs.JoinLaws.{swept_stretch}
 use Rattle.memblock_model.specs.Labels.{LabelView, Labels}
 use Rattle.memblock_model.specs.Items.{trim_frames}
@@ -104,10 +104,10 @@ module _ (f : Labels) (at : ℕ) (r : RunOf LabelView) (rs : List (RunOf LabelVi
 
     pub trim_step : (start until : ℕ) (xs : List (RunOf LabelView)) → IsSweptTo (trim_frames f) at xs →
         (start < until → start ≡ up) → until ≡ down → (until ≤ start → down ≤ up) →
-        IsSweptTo (trim_frames f) (run_end r) (xs ++ stretch start until (Some r.value))
+        IsSweptTo (trim_frames f) (run_end r) (xs ++ run_or_none start until (Some r.value))
     trim_step start until xs swept is_up is_down none =
         let starts = turns.starts in
-        elim (cases_lt start until) as (λ _. IsSweptTo (trim_frames f) (run_end r) (xs ++ stretch start until (Some r.value))) [
+        elim (cases_lt start until) as (λ _. IsSweptTo (trim_frames f) (run_end r) (xs ++ run_or_none start until (Some r.value))) [
           | inl some ↦
               let begin : start ≡ up = is_up some in
               let first = swept_over (trim_frames f) at start xs swept (omega (arith, begin, up_is))
@@ -120,7 +120,7 @@ module _ (f : Labels) (at : ℕ) (r : RunOf LabelView) (rs : List (RunOf LabelVi
                 | inr at_end ↦ let is : until ≡ run_end r = omega (arith, is_down, down_is) in
                     trimmed_other f (run_end r) r.value end_other (subst (λ n. trim_frames f n ≡ Some r.value) is same)
               ])) in
-              swept_over (trim_frames f) until (run_end r) (xs ++ stretch start until (Some r.value)) middle
+              swept_over (trim_frames f) until (run_end r) (xs ++ run_or_none start until (Some r.value)) middle
               (omega (arith, is_down, down_is))
               (λ x low high. cut_high x (omega (arith, begin, up_is, some, low)) high (omega (arith, is_down, low)))
           | inr empty ↦

@@ -7,7 +7,7 @@ ghost use Rattle.memblock_ranges.specs.Tables.{AreRecords};
 
 use crate::record::Record;
 use bm_base::Range;
-use run_edits::{Rows, seek, skip_ended, value_and_end};
+use run_edits::{Rows, first_ending_above, skip_ended, value_and_end};
 
 /// Counts the pieces of the range that the table doesn't cover. Each piece is as long as possible.
 pub fn count_pieces<T: Rows<Record>>(table: &T, range: &Range) -> u64
@@ -16,7 +16,7 @@ pub fn count_pieces<T: Rows<Record>>(table: &T, range: &Range) -> u64
 {
     let until = range.end();
     let mut from = range.base;
-    let mut read = seek(table, from);
+    let mut read = first_ending_above(table, from);
     let (first, mut next) = value_and_end(table, read, from);
     let mut bare = first.is_none();
     let mut count = 0;

@@ -8,7 +8,7 @@ ghost use Rattle.memblock_model.specs.Tables.{records_for};
 ghost use Rattle.memblock_ranges.specs.Tables.{AreRecords};
 
 use crate::record::Record;
-use address_runs::Stretch;
+use address_runs::ValuedRange;
 use bm_base::{FRAME_SIZE, Range};
 use run_edits::{Slots, write_run};
 

@@ -198,7 +198,7 @@ fn write_reports61<F: Files, S: Sink>(
         (Some (program_args_view names.now.args.now)) result }
     ensures output { WritingHasCause S.Sink out.old out.new result }
 {
-    let texts = make_texts61(alloc, names, files)?;
+    let texts = make_report_texts61(alloc, names, files)?;
     put_all(out, &texts)?;
     Ok(0)
 }
@@ -209,7 +209,7 @@ fn write_reports61<F: Files, S: Sink>(
 /// # Errors
 ///
 /// The reason why there is no report, or out of memory.
-fn make_texts61<F: Files>(
+fn make_report_texts61<F: Files>(
     alloc: Global,
     names: &NamesWithClaims<'_, '_>,
     files: &mut F,

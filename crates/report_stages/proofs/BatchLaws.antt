@@ -11,7 +11,7 @@ use Rattle.buddy_blocks.specs.declared.block.Block.{Block}
 use Rattle.buddy_blocks.specs.declared.block.BlockRow.{BlockRow}
 use Rattle.buddy_blocks.specs.Rows.{row_from}
 use Rattle.report_stages.specs.BlocksText.{AreAlignedBlocks, block_line, row_text}
-use Rattle.report_stages.specs.Batches.{FillBatches, first_batch, last_digits, batch_line_end, batch_lines_from, batch_line, batch_text}
+use Rattle.report_stages.specs.Batches.{FillBatches, first_batch, eight_digits, batch_line_end, batch_lines_from, batch_line, batch_text}
 use Rattle.report_stages.proofs.RowLaws.{lines, lines_append, lines_first, row_low, row_parts}
 use Rattle.bm_base.specs.Zones.{zone_name}
 
@@ -41,7 +41,7 @@ hex_length zero n rest = omega arith
 hex_length (suc k) n rest = let h = hex_length k (n / 16) (digit_glyph false (n % 16) ∷ rest) in omega (arith, h)
 
 -- a number below 2^32 is its own last eight digits
-last_is : (q : ℕ) → q < 2 ^ 32 → last_digits q ≡ prepend_hex_digits 8 q []
+last_is : (q : ℕ) → q < 2 ^ 32 → eight_digits q ≡ prepend_hex_digits 8 q []
 last_is q small =
     let here : 0 * 16 ^ 8 + q ≡ q = omega arith in
     let parts : prepend_hex_digits 16 q [] ≡ prepend_hex_digits 8 0 (prepend_hex_digits 8 q []) =
@@ -63,18 +63,18 @@ digit_step text i left below long =
     rw (place, drop-set text (7 - i) (digit_glyph false (left % 16)) inside, behind, count) refl
 
 pub digits_end : (text : List ℕ) (i left n : ℕ) → i ≡ 8 → n < 2 ^ 32
-    → prepend_hex_digits (8 - i) left (drop (8 - i) text) ≡ prepend_hex_digits 8 n [] → text ≡ last_digits n
+    → prepend_hex_digits (8 - i) left (drop (8 - i) text) ≡ prepend_hex_digits 8 n [] → text ≡ eight_digits n
 digits_end text i left n end small digits =
     let none : prepend_hex_digits 0 left text ≡ text = unfold prepend_hex_digits in refl in
     sym none ∙ rw end at digits ∙ sym (last_is n small)
 
 -- the digits of an address are its first eight and its last eight
-address_is : (q r : ℕ) → q < 2 ^ 32 → r < 2 ^ 32 → hex_text (q * 2 ^ 32 + r) ≡ codes "0x" ++ (last_digits q ++ last_digits r)
+address_is : (q r : ℕ) → q < 2 ^ 32 → r < 2 ^ 32 → hex_text (q * 2 ^ 32 + r) ≡ codes "0x" ++ (eight_digits q ++ eight_digits r)
 address_is q r high low =
     sym (hex_sixteen (q * 2 ^ 32 + r) (omega (arith, high, low)))
     ∙ rw (hex_parts 8 8 q r [] (omega (arith, low)), hex_append 8 q (prepend_hex_digits 8 r []), last_is q high, last_is r low) refl
 
-pub last_length : (n : ℕ) → n < 2 ^ 32 → length (last_digits n) ≡ 8
+pub last_length : (n : ℕ) → n < 2 ^ 32 → length (eight_digits n) ≡ 8
 last_length n small = rw (last_is n small) (hex_length 8 n [])
 
 -- the text before the digits in the line of a block of the largest order
@@ -86,24 +86,24 @@ around a b c d e = simp append_assoc
 
 line_is : (q j n : ℕ) (z : Zone) → q < 2 ^ 32 → j < 1024
     → block_line 0 (record { order = 10; first = q * 2 ^ 20 + j * 1024; node = n; zone = z })
-    ≡ batch_line (front_of n z) (last_digits q) j
+    ≡ batch_line (front_of n z) (eight_digits q) j
 line_is q j n z high low =
     let r : ℕ = j * 2 ^ 22 in
     let before : List ℕ = codes "node " ++ decimal n ++ codes " zone " ++ zone_name z ++ codes " order " ++ decimal 10 ++ codes " " in
     let place : 4096 * (q * 2 ^ 20 + j * 1024) ≡ q * 2 ^ 32 + r = omega arith in
     ap (λ t. (before ++ t) ++ codes "\n") (ap hex_text place ∙ address_is q r high (omega (arith, low)))
-    ∙ around before (codes "0x") (last_digits q) (last_digits r) (codes "\n")
+    ∙ around before (codes "0x") (eight_digits q) (eight_digits r) (codes "\n")
 
 -- the text of a batch is the lines of its blocks
 pub batch_lines : (k j q n : ℕ) (z : Zone) → q < 2 ^ 32 → j + k ≤ 1024
-    → batch_lines_from (front_of n z) (last_digits q) j k ≡ lines (row_from 10 (q * 2 ^ 20 + j * 1024) n z k)
+    → batch_lines_from (front_of n z) (eight_digits q) j k ≡ lines (row_from 10 (q * 2 ^ 20 + j * 1024) n z k)
 unfolding batch_lines_from row_from
 batch_lines zero j q n z high few = refl
 batch_lines (suc k) j q n z high few =
     let next : q * 2 ^ 20 + (j + 1) * 1024 ≡ q * 2 ^ 20 + j * 1024 + 2 ^ 10 = omega arith in
     let b : Block = record { order = 10; first = q * 2 ^ 20 + j * 1024; node = n; zone = z } in
     let rest = rw next at (batch_lines k (j + 1) q n z high (omega (arith, few))) in
-    ap (λ t. t ++ batch_lines_from (front_of n z) (last_digits q) (j + 1) k) (sym (line_is q j n z high (omega (arith, few))))
+    ap (λ t. t ++ batch_lines_from (front_of n z) (eight_digits q) (j + 1) k) (sym (line_is q j n z high (omega (arith, few))))
     ∙ ap (λ t. block_line 0 b ++ t) rest
     ∙ sym (lines_first b (row_from 10 (q * 2 ^ 20 + j * 1024 + 2 ^ 10) n z k))
 
@@ -167,7 +167,7 @@ batch_size front digits text eight is =
 
 -- the first batch of a row is the text of a batch
 pub batch_of : (row : BlockRow) → FillBatches row
-    → batch_text (front_of row.node row.zone) (last_digits (row.first / 2 ^ 20)) ≡ first_batch row
+    → batch_text (front_of row.node row.zone) (eight_digits (row.first / 2 ^ 20)) ≡ first_batch row
 batch_of row fill =
     let place : row.first / 2 ^ 20 * 2 ^ 20 + 0 * 1024 ≡ row.first = omega arith in
     rw fill.order (rw place at (batch_lines 1024 0 (row.first / 2 ^ 20) row.node row.zone (omega arith) (omega arith)))
@@ -191,10 +191,10 @@ rest_fill row fill some = record { order = fill.order; first = omega arith; coun
 
 pub rest_batch : (row : BlockRow) (old new : List ℕ) → FillBatches row → 0 < row.count → old ≡ first_batch row
     → ((front digits : List ℕ) → length digits ≡ 8 → old ≡ batch_text front digits
-    → new ≡ batch_text front (last_digits ((row.first + 1048576) / 1048576)))
+    → new ≡ batch_text front (eight_digits ((row.first + 1048576) / 1048576)))
     → new ≡ first_batch (record row { first = row.first + 1048576; count = row.count - 1024 })
 rest_batch row old new fill some is put =
-    put (front_of row.node row.zone) (last_digits (row.first / 2 ^ 20)) (last_length (row.first / 2 ^ 20) (omega arith))
+    put (front_of row.node row.zone) (eight_digits (row.first / 2 ^ 20)) (last_length (row.first / 2 ^ 20) (omega arith))
     (is ∙ sym (batch_of row fill))
     ∙ batch_of (record row { first = row.first + 1048576; count = row.count - 1024 }) (rest_fill row fill some)
 

@@ -12,13 +12,13 @@ use Rattle.report_memory.specs.Lines.{indexed_lines}
 use Rattle.report_stages.specs.BlocksText.{block_line}
 
 -- the last eight hexadecimal digits of a number
-abbrev pub last_digits : ℕ → List ℕ
-last_digits n = drop 10 (hex_text n)
+abbrev pub eight_digits : ℕ → List ℕ
+eight_digits n = drop 10 (hex_text n)
 
 -- the end of the line of block j of a batch, with j from 0: the last eight digits of the block's
 -- address, and the newline
 abbrev pub batch_line_end : ℕ → List ℕ
-batch_line_end j = last_digits (j * 2 ^ 22) ++ codes "\n"
+batch_line_end j = eight_digits (j * 2 ^ 22) ++ codes "\n"
 
 -- the line of block j of a batch: `front` is the text before the digits of the block's address, and
 -- `digits` are the first eight digits

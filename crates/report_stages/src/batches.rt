@@ -9,7 +9,7 @@
 ghost use Rattle.std.specs.Prelude.{◌≡◌, ℕ, List, ◌*◌, ◌%◌, ◌^◌, ◌<◌, ◌≤◌, ◌++◌, IfOk, OnOk, false, length};
 ghost use Rattle.std.specs.Fmt.{digit_glyph};
 ghost use Rattle.report_stages.specs.BlocksText.{row_text};
-ghost use Rattle.report_stages.specs.Batches.{FillBatches, batch_text, first_batch, last_digits};
+ghost use Rattle.report_stages.specs.Batches.{FillBatches, batch_text, first_batch, eight_digits};
 
 use crate::blocks::put_each_block;
 use bm_base::{Memory, put_text};
@@ -73,9 +73,9 @@ fn overwrite_batch_addresses(batch: &mut Vec<u8>, number: u64)
     requires whole { length batch.old.items % 1024 ≡ 0 }
     requires long { 17 * 1024 ≤ length batch.old.items }
     ensures { (front old : List ℕ) → length old ≡ 8 → batch.old.items ≡ batch_text front old
-        → batch.new.items ≡ batch_text front (last_digits number) }
+        → batch.new.items ≡ batch_text front (eight_digits number) }
 {
-    replace_batch_digits(batch, &last_digits(number));
+    replace_batch_digits(batch, &eight_digits(number));
 }
 
 /// Overwrites the first eight of the sixteen digits of the address in each line of a batch, which
@@ -94,9 +94,9 @@ fn replace_batch_digits(batch: &mut [u8], digits: &[u8; 8])
 }
 
 /// Returns `number`, which must be below 2^32, as eight lower-case hexadecimal digits.
-fn last_digits(number: u64) -> [u8; 8]
+fn eight_digits(number: u64) -> [u8; 8]
     requires { number < 2 ^ 32 }
-    ensures { result ≡ last_digits number }
+    ensures { result ≡ eight_digits number }
 {
     let mut digits = [b'0'; 8];
     let mut left = number;

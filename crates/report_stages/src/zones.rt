@@ -65,7 +65,7 @@ fn put_zone_line(text: &mut Vec<u8>, index: u64, span: &Span, buddy: &Buddy) -> 
     ensures { PutsText text.old text.new result
         (zone_line (blocks_of (node_of_free_frame buddy.now)) index span.now) }
 {
-    put_node_before_zone(text, span.node)?;
+    put_node_and_zone_word(text, span.node)?;
     put_text(text, zone_name(span.zone).as_bytes())?;
     put_word_dec(text, b" start ", span.start)?;
     put_word_dec(text, b" end ", span.end)?;
@@ -108,7 +108,7 @@ fn put_buddyinfo_line(
     ensures { PutsText text.old text.new result
         (buddyinfo_line (blocks_of (node_of_free_frame buddy.now)) index span.now) }
 {
-    put_node_before_zone(text, span.node)?;
+    put_node_and_zone_word(text, span.node)?;
     put_padded_zone(text, span.zone)?;
     put_text(text, b" ")?;
     put_block_counts(text, span, buddy)?;
@@ -117,7 +117,7 @@ fn put_buddyinfo_line(
 
 /// Appends `Node `, the number of the node, and `, zone `: the start of a line before the name of
 /// the zone.
-fn put_node_before_zone(text: &mut Vec<u8>, node: u32) -> Result<(), Memory>
+fn put_node_and_zone_word(text: &mut Vec<u8>, node: u32) -> Result<(), Memory>
     ensures { PutsText text.old text.new result (codes "Node " ++ decimal node ++ codes ", zone ") }
 {
     put_word_dec(text, b"Node ", u64::from(node))?;

@@ -10,7 +10,7 @@ use Rattle.address_runs.specs.Runs.{RunOf, DecidesEquality, value_at, AreRuns, I
 use Rattle.address_runs.specs.Edits.{change_range, cover_range, uncover_range, relabel_range, replace_in_range, gaps_in_range, IsEmptyFrom}
 use Rattle.address_runs.proofs.RunsLaws.{runs_of_are_runs}
 use Rattle.address_runs.proofs.EditLaws.{not_covered, nothing-covered, nothing-uncovered, nothing-relabelled, nothing-replaced}
-use Rattle.run_edits.specs.Records.{EndsNoRun}
+use Rattle.run_edits.specs.Records.{AddsNoRunEnd}
 use Rattle.run_edits.specs.Ends.{total, run_ends_between, run_ends_at, one_right_below, HasRoomToEdit}
 use Rattle.run_edits.proofs.EndLaws.{total-fewer, total-add, total-split, spikes_few, run_ends_between-self, run_ends_between-few, all_ends}
 
@@ -58,7 +58,7 @@ module _ {X : Type 0} where
       omega (arith, first, second, sums)
 
   -- inside the range, the edit makes a run end only where one ended before
-  inside_edges : (same : X → X → Bool) → DecidesEquality same → (change : Option X → Option X) → EndsNoRun change → (a b : Option X)
+  inside_edges : (same : X → X → Bool) → DecidesEquality same → (change : Option X → Option X) → AddsNoRunEnd change → (a b : Option X)
       → run_ends_between same (change a) (change b) ≤ run_ends_between same a b
   inside_edges same tells change (inl stays) None b = rw stays (omega arith)
   inside_edges same tells change (inl stays) (Some v) None = run_ends_between-few same (change (Some v)) (change None)
@@ -73,7 +73,7 @@ module _ {X : Type 0} where
   inside_edges same tells change (inr one) a b = rw (one a, one b, run_ends_between-self same tells (change None)) (omega arith)
 
   -- an edit makes at most one more run end right below the range, and one at its last address
-  pub amended_edges : (same : X → X → Bool) → DecidesEquality same → (change : Option X → Option X) → EndsNoRun change
+  pub amended_edges : (same : X → X → Bool) → DecidesEquality same → (change : Option X → Option X) → AddsNoRunEnd change
       → (r : RangeView) (f : ℕ → Option X) (x : ℕ)
       → run_ends_at same (change_range change r f) x ≤ run_ends_at same f x
       + (one_right_below r.base x + one_right_below (r.base + r.size) x)
@@ -173,7 +173,7 @@ module _ {X : Type 0} where
       (uncovered_edges same r f)
       (spikes_few r.base 0 (2 ^ 64))
 
-  pub amended_length : (same : X → X → Bool) → DecidesEquality same → (change : Option X → Option X) → EndsNoRun change
+  pub amended_length : (same : X → X → Bool) → DecidesEquality same → (change : Option X → Option X) → AddsNoRunEnd change
       → (r : RangeView) (f : ℕ → Option X) → IsEmptyFrom (2 ^ 64) f
       → IsEmptyFrom (2 ^ 64) (change_range change r f) → length (runs_of same (change_range change r f)) ≤ length (runs_of same f) + 2
   amended_length same tells change plain r f none none_too =

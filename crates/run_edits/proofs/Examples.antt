@@ -1,14 +1,15 @@
 -- Worked examples: small tables.
 use Rattle.std.proofs.Common.{◌≡◌, ℕ, ◌==◌, nat_lt, if◌then◌else◌, Option, Some, None, [], ◌∷◌, refl, inl, inr, arith}
 use Rattle.address_runs.specs.Runs.{RunOf}
-use Rattle.run_edits.specs.Records.{stretch, EndBelow, CutsNoRun, EndsNoRun}
+use Rattle.run_edits.specs.Records.{run_or_none, EndBelow, IsNotInsideRun, AddsNoRunEnd}
 use Rattle.run_edits.specs.Ends.{total, run_ends_at, one_right_below}
 
 abbrev run : ℕ → ℕ → ℕ → RunOf ℕ
 run base size value = record { base = base; size = size; value = value }
 
 -- a run of no address, or without a value, is no run
-stretch_examples : (stretch 4 6 (Some 1) ≡ run 4 2 1 ∷ []) × (stretch {X = ℕ} 4 4 (Some 1) ≡ []) × (stretch {X = ℕ} 4 6 None ≡ [])
+stretch_examples : (run_or_none 4 6 (Some 1) ≡ run 4 2 1 ∷ []) × (run_or_none {X = ℕ} 4 4 (Some 1) ≡ [])
+    × (run_or_none {X = ℕ} 4 6 None ≡ [])
 stretch_examples = (refl, refl, refl)
 
 -- a run that ends exactly at the address doesn't end below it
@@ -16,7 +17,7 @@ ends_below : EndBelow 7 (run 1 2 5 ∷ (run 4 2 1 ∷ [])) × (EndBelow 6 (run 4
 ends_below = ((omega arith, (omega arith, tt)), λ ends. let below = ends.0 in omega (arith, below))
 
 -- an address cuts a run only if it is strictly inside the run
-uncut_at_its_ends : (CutsNoRun 5 (run 4 2 1 ∷ []) → ⊥) × CutsNoRun 4 (run 4 2 1 ∷ []) × CutsNoRun 6 (run 4 2 1 ∷ [])
+uncut_at_its_ends : (IsNotInsideRun 5 (run 4 2 1 ∷ []) → ⊥) × IsNotInsideRun 4 (run 4 2 1 ∷ []) × IsNotInsideRun 6 (run 4 2 1 ∷ [])
 uncut_at_its_ends = (
   λ uncut. let ends = uncut (omega arith) in omega (arith, ends),
   λ lt. absurd (omega (arith, lt)),
@@ -24,7 +25,7 @@ uncut_at_its_ends = (
 )
 
 -- uncovering and replacing make no run end inside the range; covering may
-ending_none : EndsNoRun (λ (carried : Option ℕ). None) × EndsNoRun (λ (carried : Option ℕ). Some 7)
+ending_none : AddsNoRunEnd (λ (carried : Option ℕ). None) × AddsNoRunEnd (λ (carried : Option ℕ). Some 7)
 ending_none = (inl refl, inr (λ carried. refl))
 
 abbrev cover : Option ℕ → Option ℕ
@@ -37,7 +38,7 @@ something_is_nothing n same = cc
 same_value : (m n : ℕ) → Some m ≡ Some n → m ≡ n
 same_value m n same = cc
 
-covering : EndsNoRun cover → ⊥
+covering : AddsNoRunEnd cover → ⊥
 covering (inl stays) = something_is_nothing 7 stays
 covering (inr one) = let equal : 8 ≡ 7 = same_value 8 7 (one (Some 8)) in omega (arith, equal)
 

@@ -10,7 +10,7 @@ use Rattle.address_runs.specs.Edits.{IsEmptyFrom}
 use Rattle.address_runs.specs.Sweep.{HasValueBetween, StartAtOrPast, EndBy, FirstEndsPast, FirstEndsAtOrPast, IsSweptTo, IsRestFrom, IsBuiltTo}
 use Rattle.address_runs.proofs.RunsLaws.{inside, behind, none_below}
 use Rattle.address_runs.proofs.SweepLaws.{none_behind, value_append_none, value_append_left, swept_over, swept_push}
-use Rattle.run_edits.specs.Records.{stretch, EndBelow}
+use Rattle.run_edits.specs.Records.{run_or_none, EndBelow}
 use Rattle.run_edits.specs.Ends.{run_ends_at, HasRoomToEdit}
 use Rattle.run_edits.proofs.EndLaws.{total-split, swept_ends, rest_ends}
 
@@ -58,10 +58,10 @@ module _ {X : Type 0} where
   -- the list stays complete when one more run has been written
   pub swept_stretch : (g : ℕ → Option X) (start until : ℕ) (v : Option X) (xs : List (RunOf X)) → IsSweptTo g start xs → start ≤ until
       → HasValueBetween g start until v
-      → (g until ≡ v → v ≡ None) → IsSweptTo g until (xs ++ stretch start until v)
+      → (g until ≡ v → v ≡ None) → IsSweptTo g until (xs ++ run_or_none start until v)
   swept_stretch g start until None xs swept order stays other = rw (append-nil xs) (swept_over g start until xs swept order stays)
   swept_stretch g start until (Some v) xs swept order stays other =
-      elim (cases_Bool (nat_lt start until)) as (λ _. IsSweptTo g until (xs ++ stretch start until (Some v))) [
+      elim (cases_Bool (nat_lt start until)) as (λ _. IsSweptTo g until (xs ++ run_or_none start until (Some v))) [
         | inl some ↦
             let lt : start < until = grind (arith, nat_tests) in
             let another : g until ≢ Some v = λ same. let none : Some v ≡ None = other same in cc none in
@@ -75,7 +75,7 @@ module _ {X : Type 0} where
   -- when a value changes, the current run is written and another one begins
   pub built_stretch : (g : ℕ → Option X) (start from until : ℕ) (v w : Option X) (xs : List (RunOf X)) → IsBuiltTo g from xs start v
       → g from ≡ w → v ≢ w → from ≤ until
-      → HasValueBetween g from until w → IsBuiltTo g until (xs ++ stretch start from v) from w
+      → HasValueBetween g from until w → IsBuiltTo g until (xs ++ run_or_none start from v) from w
   built_stretch g start from until v w xs built is other order stays = record {
     begun = order;
     swept = swept_stretch g start from v xs built.swept built.begun built.stays (λ same. absurd (other (sym same ∙ is)));
@@ -192,7 +192,7 @@ module _ {X : Type 0} where
       let more : take (i + 1) rs ≡ take i rs ++ s ∷ [] = take_more rs i s lt ∙ ap (λ (r : RunOf X). take i rs ++ r ∷ []) (sym is) in
       rw more (before_more at (take i rs) (drop (i + 1) rs) s (rw parts runs) under)
 
-  length_stretch : (start until : ℕ) (v : Option X) → start < until → is_some v ≡ true → length (stretch start until v) ≡ 1
+  length_stretch : (start until : ℕ) (v : Option X) → start < until → is_some v ≡ true → length (run_or_none start until v) ≡ 1
   length_stretch start until None lt some = cc
   length_stretch start until (Some v) lt some = let test : nat_lt start until ≡ true = grind (arith, nat_tests) in rw test refl
 
@@ -200,13 +200,14 @@ module _ {X : Type 0} where
   pub room_for : (same : X → X → Bool) → DecidesEquality same
       → (f g : ℕ → Option X) (start from to : ℕ) (v : Option X) (xs ys : List (RunOf X))
       (room : ℕ) → HasRoomToEdit same f g room
-      → IsEmptyFrom (2 ^ 64) f → from ≤ to → to ≤ 2 ^ 64 → IsSweptTo g from (xs ++ stretch start from v) → start < from → is_some v ≡ true
+      → IsEmptyFrom (2 ^ 64) f → from ≤ to → to ≤ 2 ^ 64 → IsSweptTo g from (xs ++ run_or_none start from v) → start < from
+      → is_some v ≡ true
       → IsRestFrom f to ys
       → length xs + length ys < room
   room_for same tells f g start from to v xs ys room has none order le swept lt some rest =
       let one = length_stretch start from v lt some in
-      let front = swept_ends same tells g from (xs ++ stretch start from v) swept in
-      let parts = length-append xs (stretch start from v) in
+      let front = swept_ends same tells g from (xs ++ run_or_none start from v) swept in
+      let parts = length-append xs (run_or_none start from v) in
       let back = rest_ends same tells f to ys rest none le in
       let split = total-split (run_ends_at same f) from (to - from) (2 ^ 64 - to) (2 ^ 64 - from) to (omega arith) (omega arith) in
       let enough = has from (omega arith) in

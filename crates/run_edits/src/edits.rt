@@ -9,14 +9,14 @@ ghost use Rattle.std.specs.Prelude.{◌≡◌, ◌≢◌, ◌+◌, ◌-◌, ◌^
 ghost use Rattle.address_runs.specs.Runs.{DecidesEquality, AreRuns, IsRunsOf, value_at};
 ghost use Rattle.address_runs.specs.Edits.{change_range, IsEmptyFrom};
 ghost use Rattle.address_runs.specs.Sweep.{FirstEndsAtOrPast, IsBuiltTo, IsRestFrom, HasValueBetween};
-ghost use Rattle.run_edits.specs.Records.{stretch, EndBelow, EndsNoRun};
+ghost use Rattle.run_edits.specs.Records.{run_or_none, EndBelow, AddsNoRunEnd};
 ghost use Rattle.run_edits.specs.Ends.{HasRoomToEdit};
 
 use crate::change::Change;
 use crate::laws::range_end_fits;
 use crate::reading::{first_ending_from, peek, skip_ended, value_and_end};
 use crate::slots::{Rows, Slots};
-use address_runs::{Stretch, agree};
+use address_runs::{ValuedRange, agree};
 use bm_base::Range;
 
 /// The state of a sweep, which rewrites the table in place from the lowest address up. The first
@@ -32,7 +32,7 @@ struct Sweep<V> {
 
 /// Returns the state of a sweep that starts at address `at`. The records that end below `at` are
 /// finished. A record that begins below `at` and ends at or above it is the current run.
-fn begin<S: Stretch, T: Rows<S>>(table: &T, at: u64) -> Sweep<S::Value>
+fn begin<S: ValuedRange, T: Rows<S>>(table: &T, at: u64) -> Sweep<S::Value>
     requires { AreRuns (T.list table.now) }
     ensures built { (g : ℕ → Option S.Value) →
         ((x : ℕ) → x < at → g x ≡ value_at (T.list table.now) x) →
@@ -56,7 +56,7 @@ fn begin<S: Stretch, T: Rows<S>>(table: &T, at: u64) -> Sweep<S::Value>
 /// Returns the start and the value of the run that ends at or goes on past address `at`: those of
 /// the record at index `first`, if that record begins below `at`, else `at` and `None`. `first`
 /// must be the index of the first record that ends at or above `at`.
-fn stretch_at<S: Stretch, T: Rows<S>>(table: &T, first: u64, at: u64) -> (u64, Option<S::Value>)
+fn stretch_at<S: ValuedRange, T: Rows<S>>(table: &T, first: u64, at: u64) -> (u64, Option<S::Value>)
     requires runs { AreRuns (T.list table.now) }
     requires before { EndBelow at (take first (T.list table.now)) }
     requires from { FirstEndsAtOrPast at (drop first (T.list table.now)) }
@@ -76,7 +76,7 @@ fn stretch_at<S: Stretch, T: Rows<S>>(table: &T, first: u64, at: u64) -> (u64, O
 /// are free. If there is no free slot, the record is inserted. Returns the indices `write` and
 /// `read` for the next call: `write` is one more if the record was written, and `read` if it was
 /// inserted.
-pub fn write_run<S: Stretch, T: Slots<S>>(
+pub fn write_run<S: ValuedRange, T: Slots<S>>(
     table: &mut T,
     write: u64,
     read: u64,
@@ -89,7 +89,7 @@ pub fn write_run<S: Stretch, T: Slots<S>>(
     requires room { write ≡ read → start < until → is_some value ≡ true →
         length (T.list table.old) < T.room table.old }
     ensures written { take result.0 (T.list table.new)
-        ≡ take write (T.list table.old) ++ stretch start until value }
+        ≡ take write (T.list table.old) ++ run_or_none start until value }
     ensures rest { drop result.1 (T.list table.new) ≡ drop read (T.list table.old) }
     ensures order { result.0 ≤ result.1 }
     ensures within { result.1 ≤ length (T.list table.new) }
@@ -112,7 +112,7 @@ pub fn write_run<S: Stretch, T: Slots<S>>(
 
 /// Continues the sweep with `value` from address `from` on. If the current run has another value,
 /// it is written up to `from`, and a new run begins there.
-fn advance<S: Stretch, T: Slots<S>>(
+fn advance<S: ValuedRange, T: Slots<S>>(
     table: &mut T,
     sweep: Sweep<S::Value>,
     from: u64,
@@ -156,7 +156,7 @@ fn advance<S: Stretch, T: Slots<S>>(
 /// The range must not be empty. The table must have room during the whole sweep: for each address,
 /// the new runs whose last address is below it and the old runs whose last address is at or above
 /// it must together fit into the table.
-pub fn edit_range<S: Stretch, T: Slots<S>, C: Change<S::Value>>(
+pub fn edit_range<S: ValuedRange, T: Slots<S>, C: Change<S::Value>>(
     table: &mut T,
     range: &Range,
     change: C,
@@ -200,7 +200,7 @@ pub fn edit_range<S: Stretch, T: Slots<S>, C: Change<S::Value>>(
 /// The change must leave addresses that carry nothing as they are, or give the same to all
 /// addresses; so it can't be a [`crate::Cover`]. The range must not be empty, and the table must
 /// have room for two more records.
-pub fn edit_without_cover<S: Stretch, T: Slots<S>, C: Change<S::Value>>(
+pub fn edit_without_cover<S: ValuedRange, T: Slots<S>, C: Change<S::Value>>(
     table: &mut T,
     range: &Range,
     change: C,
@@ -208,7 +208,7 @@ pub fn edit_without_cover<S: Stretch, T: Slots<S>, C: Change<S::Value>>(
     requires some { 0 < range.now.size }
     requires runs { AreRuns (T.list table.old) }
     requires within { IsEmptyFrom (2 ^ 64) (value_at (T.list table.old)) }
-    requires change { EndsNoRun (C.makes change) }
+    requires change { AddsNoRunEnd (C.makes change) }
     requires tells { (same : S.Value → S.Value → Bool) × DecidesEquality same }
     requires room { length (T.list table.old) + 2 ≤ T.room table.old }
     ensures list { IsRunsOf (change_range (C.makes change) range.now (value_at (T.list table.old)))

@@ -28,5 +28,5 @@ mod slots;
 pub use change::{Change, Cover, Replace, Uncover};
 pub use edits::{edit_range, edit_without_cover, write_run};
 pub use laws::{edits_add_few, range_end_fits};
-pub use reading::{has_value_throughout, seek, skip_ended, value_and_end, value_at};
+pub use reading::{first_ending_above, has_value_throughout, skip_ended, value_and_end, value_at};
 pub use slots::{Rows, Slots};

@@ -5,14 +5,14 @@ ghost use Rattle.std.specs.Prelude.{◌≡◌, ◌+◌, ◌-◌, ◌^◌, ◌<�
 ghost use Rattle.bm_base.specs.Range.{end_of};
 ghost use Rattle.address_runs.specs.Runs.{AreRuns, value_at};
 ghost use Rattle.address_runs.specs.Sweep.{IsRestFrom, StartAtOrPast, FirstEndsPast, FirstEndsAtOrPast, HasValueBetween};
-ghost use Rattle.run_edits.specs.Records.{EndBelow, CutsNoRun};
+ghost use Rattle.run_edits.specs.Records.{EndBelow, IsNotInsideRun};
 
 use crate::slots::Rows;
-use address_runs::{Stretch, agree};
+use address_runs::{ValuedRange, agree};
 use bm_base::Range;
 
 /// Returns the record at index `i`, or `None` if the table has no more than `i` records.
-pub(crate) fn peek<S: Stretch, T: Rows<S>>(table: &T, i: u64) -> Option<S>
+pub(crate) fn peek<S: ValuedRange, T: Rows<S>>(table: &T, i: u64) -> Option<S>
     ensures record { MatchOption result (drop i (T.list table.now) ≡ [])
         (λ r. drop i (T.list table.now) ≡ S.run r ∷ drop (i + 1) (T.list table.now)) }
     ensures within { MatchOption result (length (T.list table.now) ≤ i)
@@ -28,7 +28,7 @@ pub(crate) fn peek<S: Stretch, T: Rows<S>>(table: &T, i: u64) -> Option<S>
 
 /// Returns the index of the first record that ends at or above the address, or the number of
 /// records if there is no such record. This is a binary search.
-pub(crate) fn first_ending_from<S: Stretch, T: Rows<S>>(table: &T, at: u64) -> u64
+pub(crate) fn first_ending_from<S: ValuedRange, T: Rows<S>>(table: &T, at: u64) -> u64
     requires { AreRuns (T.list table.now) }
     ensures before { EndBelow at (take result (T.list table.now)) }
     ensures from { FirstEndsAtOrPast at (drop result (T.list table.now)) }
@@ -48,7 +48,7 @@ pub(crate) fn first_ending_from<S: Stretch, T: Rows<S>>(table: &T, at: u64) -> u
 }
 
 /// Returns `read`, or `read + 1` if the record at index `read` ends at or below the address.
-pub fn skip_ended<S: Stretch, T: Rows<S>>(table: &T, read: u64, at: u64) -> u64
+pub fn skip_ended<S: ValuedRange, T: Rows<S>>(table: &T, read: u64, at: u64) -> u64
     ensures rest { (f : ℕ → Option S.Value) (before : ℕ) →
         IsRestFrom f before (drop read (T.list table.now)) →
         before ≤ at → FirstEndsAtOrPast at (drop read (T.list table.now)) →
@@ -56,7 +56,7 @@ pub fn skip_ended<S: Stretch, T: Rows<S>>(table: &T, read: u64, at: u64) -> u64
     ensures starts { (f : ℕ → Option S.Value) (before : ℕ) →
         IsRestFrom f before (drop read (T.list table.now)) →
         FirstEndsAtOrPast at (drop read (T.list table.now)) →
-        CutsNoRun at (drop read (T.list table.now)) →
+        IsNotInsideRun at (drop read (T.list table.now)) →
         StartAtOrPast at (drop result (T.list table.now)) }
     ensures order { read ≤ result }
     ensures within { read ≤ length (T.list table.now) → result ≤ length (T.list table.now) }
@@ -70,7 +70,7 @@ pub fn skip_ended<S: Stretch, T: Rows<S>>(table: &T, read: u64, at: u64) -> u64
 /// Returns what the address `from` carries, and the first address above it that carries something
 /// else (2^64 - 1 if there is no record at index `read`). `read` must be the index of the first
 /// record that ends above `from`.
-pub fn value_and_end<S: Stretch, T: Rows<S>>(
+pub fn value_and_end<S: ValuedRange, T: Rows<S>>(
     table: &T,
     read: u64,
     from: u64,
@@ -87,7 +87,7 @@ pub fn value_and_end<S: Stretch, T: Rows<S>>(
         from ≤ result.1 }
     ensures ends { FirstEndsPast from (drop read (T.list table.now)) →
         FirstEndsAtOrPast result.1 (drop read (T.list table.now)) }
-    ensures uncut { CutsNoRun result.1 (drop read (T.list table.now)) }
+    ensures uncut { IsNotInsideRun result.1 (drop read (T.list table.now)) }
 {
     let Some(record) = peek(table, read) else {
         return (None, u64::MAX);
@@ -102,7 +102,7 @@ pub fn value_and_end<S: Stretch, T: Rows<S>>(
 
 /// Returns the index of the first record that ends above the address, or the number of records if
 /// there is no such record.
-pub fn seek<S: Stretch, T: Rows<S>>(table: &T, at: u64) -> u64
+pub fn first_ending_above<S: ValuedRange, T: Rows<S>>(table: &T, at: u64) -> u64
     requires { AreRuns (T.list table.now) }
     ensures rest { IsRestFrom (value_at (T.list table.now)) at (drop result (T.list table.now)) }
     ensures within { result ≤ length (T.list table.now) }
@@ -112,16 +112,16 @@ pub fn seek<S: Stretch, T: Rows<S>>(table: &T, at: u64) -> u64
 }
 
 /// Returns what the address `x` carries, or `None` if it carries nothing.
-pub fn value_at<S: Stretch, T: Rows<S>>(table: &T, x: u64) -> Option<S::Value>
+pub fn value_at<S: ValuedRange, T: Rows<S>>(table: &T, x: u64) -> Option<S::Value>
     requires { AreRuns (T.list table.now) }
     ensures { result ≡ value_at (T.list table.now) x }
 {
-    let read = seek(table, x);
+    let read = first_ending_above(table, x);
     value_and_end(table, read, x).0
 }
 
 /// Returns whether each address of the range carries `value`. An empty range gives true.
-pub fn has_value_throughout<S: Stretch, T: Rows<S>>(
+pub fn has_value_throughout<S: ValuedRange, T: Rows<S>>(
     table: &T,
     range: &Range,
     value: S::Value,
@@ -133,7 +133,7 @@ pub fn has_value_throughout<S: Stretch, T: Rows<S>>(
     if range.size == 0 {
         return true;
     }
-    let read = seek(table, range.base);
+    let read = first_ending_above(table, range.base);
     let (here, next) = value_and_end(table, read, range.base);
     agree::<S>(here, Some(value)) && range.end() <= next
 }

@@ -6,10 +6,10 @@
 ghost use Rattle.std.specs.Prelude.{◌≡◌, ◌+◌, ◌^◌, ◌<◌, ◌≤◌, ℕ, List, ◌∷◌, ◌++◌, length, get_or, take, drop, set, map, vec_capacity};
 ghost use Rattle.address_runs.specs.Runs.{RunOf};
 
-use address_runs::Stretch;
+use address_runs::ValuedRange;
 
 /// A sequence of records that can be read.
-pub trait Rows<S: Stretch> {
+pub trait Rows<S: ValuedRange> {
     // the records as runs, in order
     ghost list: { Self → List (RunOf S.Value) };
 
@@ -25,7 +25,7 @@ pub trait Rows<S: Stretch> {
 
 /// A sequence of records that can be changed, with room for a fixed number of records. No call
 /// allocates.
-pub trait Slots<S: Stretch>: Rows<S> {
+pub trait Slots<S: ValuedRange>: Rows<S> {
     // the number of records that there is room for
     ghost room: { Self → ℕ };
 
@@ -62,7 +62,7 @@ pub trait Slots<S: Stretch>: Rows<S> {
     ghost keeps_room: { (s t : Self) → keeps s t → (m : ℕ) → m ≤ room s → m ≤ room t };
 }
 
-impl<S: Stretch> Rows<S> for Vec<S> {
+impl<S: ValuedRange> Rows<S> for Vec<S> {
     ghost list = { λ v. map S.run v.items };
 
     fn count(&self) -> u64 {
@@ -75,7 +75,7 @@ impl<S: Stretch> Rows<S> for Vec<S> {
 }
 
 /// The room of a `Vec` is its capacity.
-impl<S: Stretch> Slots<S> for Vec<S> {
+impl<S: ValuedRange> Slots<S> for Vec<S> {
     ghost room = { λ v. vec_capacity v };
 
     ghost keeps = { λ v w. (m : ℕ) → m ≤ vec_capacity v → m ≤ vec_capacity w };

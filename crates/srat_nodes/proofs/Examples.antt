@@ -11,9 +11,9 @@ use Rattle.srat_nodes.specs.declared.kept.KeptBlock.{KeptBlock}
 use Rattle.srat_nodes.specs.declared.reasons.Why.TheVariants as why
 use Rattle.srat_nodes.specs.Domains.{domains_once, named_domains}
 use Rattle.srat_nodes.specs.NodeAt.{NumaBlock, node_at, same_node}
-use Rattle.srat_nodes.specs.SratNodesView.{count_frames_with_node, lower_node, lowest_node, unused_srat, used_srat, nodes_if_covering, nodes_by_blocks, node_outside_blocks, judge_kept_blocks, judge_srat_table, judge_srat}
+use Rattle.srat_nodes.specs.SratNodesView.{count_frames_with_node, lower_node, lowest_node, unused_srat, used_srat, nodes_if_covering, nodes_by_blocks, fallback_node, judge_kept_blocks, judge_srat_table, judge_srat}
 use Rattle.srat_nodes.proofs.RestLaws.{frames_none, frames_step}
-use Rattle.srat_nodes.specs.Kept.{is_in_any_range, round_ends_down, meets_memory, block_in_frames, keep_blocks_from, keep_blocks, is_clash, first_clash}
+use Rattle.srat_nodes.specs.Kept.{is_in_any_range, round_ends_down, meets_memory, block_in_frames, keep_blocks_from, keep_blocks, nodes_overlap, first_overlap}
 
 abbrev block : ℕ → ℕ → ℕ → NumaBlock
 block n base size = record { base = base; size = size; value = n }
@@ -85,16 +85,16 @@ kept i b = record { number = i; block = b }
 
 -- blocks of different nodes that share an address; blocks that touch don't, and blocks of one node
 -- may overlap
-clash_examples : (is_clash (kept 0 (block 0 1 2)) (kept 1 (block 1 2 2)) ≡ true)
-    × (is_clash (kept 0 (block 0 1 2)) (kept 1 (block 1 3 2)) ≡ false)
-    × (is_clash (kept 0 (block 0 1 2)) (kept 1 (block 0 2 2)) ≡ false)
+clash_examples : (nodes_overlap (kept 0 (block 0 1 2)) (kept 1 (block 1 2 2)) ≡ true)
+    × (nodes_overlap (kept 0 (block 0 1 2)) (kept 1 (block 1 3 2)) ≡ false)
+    × (nodes_overlap (kept 0 (block 0 1 2)) (kept 1 (block 0 2 2)) ≡ false)
 clash_examples = (refl, refl, refl)
 
 -- the pair that is reported is the least, by its first number and then by its second; None if no
 -- blocks overlap
-pair_examples : (first_clash (kept 1 (block 0 9 1) ∷ kept 2 (block 0 1 4) ∷ kept 5 (block 1 7 1) ∷ kept 6 (block 1 3 1)
+pair_examples : (first_overlap (kept 1 (block 0 9 1) ∷ kept 2 (block 0 1 4) ∷ kept 5 (block 1 7 1) ∷ kept 6 (block 1 3 1)
     ∷ kept 8 (block 2 2 1) ∷ []) ≡ Some (2, 6))
-    × (first_clash (kept 0 (block 0 1 2) ∷ kept 1 (block 1 3 2) ∷ []) ≡ None)
+    × (first_overlap (kept 0 (block 0 1 2) ∷ kept 1 (block 1 3 2) ∷ []) ≡ None)
 pair_examples = (refl, refl)
 
 -- an address of memory without a node gets node n; one that has a node, or isn't memory, gets none
@@ -109,8 +109,8 @@ lowest_examples = (refl, refl, refl, refl)
 -- the node of an address by the kept blocks, and the memory to which they give none, which gets the
 -- lowest node
 by_kept_examples : (nodes_by_blocks (kept 3 (block 2 1 1) ∷ kept 4 (block 2 3 1) ∷ []) 2 ≡ Some 2)
-    × (node_outside_blocks below_4 (kept 3 (block 2 1 1) ∷ kept 4 (block 2 3 1) ∷ []) 0 ≡ Some 2)
-    × (node_outside_blocks below_4 (kept 3 (block 2 1 1) ∷ kept 4 (block 2 3 1) ∷ []) 2 ≡ None)
+    × (fallback_node below_4 (kept 3 (block 2 1 1) ∷ kept 4 (block 2 3 1) ∷ []) 0 ≡ Some 2)
+    × (fallback_node below_4 (kept 3 (block 2 1 1) ∷ kept 4 (block 2 3 1) ∷ []) 2 ≡ None)
 unfolding node_at
 by_kept_examples = (refl, refl, refl)
 

@@ -15,8 +15,8 @@ use Rattle.srat_nodes.specs.declared.reasons.Why.{Why}
 use Rattle.srat_nodes.specs.declared.reasons.Why.TheVariants as why
 use Rattle.srat_nodes.specs.Domains.{node_of_domain}
 use Rattle.srat_nodes.specs.NodeAt.{NumaBlock, same_node}
-use Rattle.srat_nodes.specs.SratNodesView.{SratNodesView, count_frames_with_node, nodes_if_apart, nodes_if_covering, judge_srat, judge_kept_blocks, judge_srat_table, node_outside_blocks, srat_domains, nodes_by_blocks, unused_srat, used_srat}
-use Rattle.srat_nodes.specs.Kept.{is_any_kept, count_with_addresses, first_clash, frame_base, meets_memory, is_node_of, keep_blocks_from, keep_blocks, block_in_frames}
+use Rattle.srat_nodes.specs.SratNodesView.{SratNodesView, count_frames_with_node, nodes_if_apart, nodes_if_covering, judge_srat, judge_kept_blocks, judge_srat_table, fallback_node, srat_domains, nodes_by_blocks, unused_srat, used_srat}
+use Rattle.srat_nodes.specs.Kept.{is_any_kept, count_with_addresses, first_overlap, frame_base, meets_memory, is_node_of, keep_blocks_from, keep_blocks, block_in_frames}
 use Rattle.srat_nodes.proofs.InListLaws.{any_member}
 use Rattle.srat_nodes.proofs.JudgedLaws.{tells_nodes}
 use Rattle.srat_nodes.proofs.MeaningLaws.{is_kept, left_frame, node_of_kept, nodes_frame}
@@ -37,16 +37,16 @@ module _ (P : SratNodesView → Type 0) where
   apart None j none some = some
 
   by_kept : (memory : ℕ → Bool) (domains : List ℕ) (kept : List KeptBlock) → ((r : Why) → r ≢ why.Used → P (unused_srat r))
-      → P (used_srat domains (nodes_by_blocks kept) (node_outside_blocks memory kept)) → P (judge_kept_blocks memory domains kept)
+      → P (used_srat domains (nodes_by_blocks kept) (fallback_node memory kept)) → P (judge_kept_blocks memory domains kept)
   unfolding judge_kept_blocks
   by_kept memory domains kept none some =
-      apart (first_clash kept) (nodes_if_covering domains (nodes_by_blocks kept) (node_outside_blocks memory kept)) none
-      (covering domains (nodes_by_blocks kept) (node_outside_blocks memory kept) none some)
+      apart (first_overlap kept) (nodes_if_covering domains (nodes_by_blocks kept) (fallback_node memory kept)) none
+      (covering domains (nodes_by_blocks kept) (fallback_node memory kept) none some)
 
   by_table : (memory : ℕ → Bool) (lists : SratView) → ((r : Why) → r ≢ why.Used → P (unused_srat r))
       → (is_any_kept memory lists.blocks ≡ true → length (srat_domains lists) ≤ 1024
       → P (used_srat (srat_domains lists) (nodes_by_blocks (keep_blocks memory (srat_domains lists) lists.blocks))
-      (node_outside_blocks memory (keep_blocks memory (srat_domains lists) lists.blocks))))
+      (fallback_node memory (keep_blocks memory (srat_domains lists) lists.blocks))))
       → P (judge_srat_table memory lists)
   unfolding judge_srat_table
   by_table memory lists none some =
@@ -59,7 +59,7 @@ module _ (P : SratNodesView → Type 0) where
   pub by_judgement : (memory : ℕ → Bool) (off : Bool) (table : Option SratView) → ((r : Why) → r ≢ why.Used → P (unused_srat r))
       → ((lists : SratView) → is_any_kept memory lists.blocks ≡ true → length (srat_domains lists) ≤ 1024
       → P (used_srat (srat_domains lists) (nodes_by_blocks (keep_blocks memory (srat_domains lists) lists.blocks))
-      (node_outside_blocks memory (keep_blocks memory (srat_domains lists) lists.blocks))))
+      (fallback_node memory (keep_blocks memory (srat_domains lists) lists.blocks))))
       → P (judge_srat memory off table)
   by_judgement memory true None none some = none why.Off (λ same. cc)
   by_judgement memory false None none some = none why.Absent (λ same. cc)
@@ -148,10 +148,10 @@ given-small memory off table =
     let domains : List ℕ = srat_domains lists in
     let blocks : List KeptBlock = keep_blocks memory domains lists.blocks in
     let some : blocks ≢ [] = some-kept memory domains 0 lists.blocks kept in
-    All-append Small (runs_of same_node (nodes_by_blocks blocks)) (runs_of same_node (node_outside_blocks memory blocks))
+    All-append Small (runs_of same_node (nodes_by_blocks blocks)) (runs_of same_node (fallback_node memory blocks))
     (small-runs (nodes_by_blocks blocks) (λ x n at.
     node-few memory domains lists.blocks n few (node_of_kept memory blocks some x n (inl at))))
-    (small-runs (node_outside_blocks memory blocks)
+    (small-runs (fallback_node memory blocks)
     (λ x n at. node-few memory domains lists.blocks n few (node_of_kept memory blocks some x n (inr at)))))
 
 pub given-runs : (memory : ℕ → Bool) (off : Bool) (table : Option SratView)
@@ -160,7 +160,7 @@ given-runs memory off table =
     by_judgement (λ (j : SratNodesView). AreRuns j.joined × AreRuns j.rest) memory off table (λ r other. (tt, tt))
     (λ lists kept few.
     let blocks : List KeptBlock = keep_blocks memory (srat_domains lists) lists.blocks in
-    ((runs-between (nodes_by_blocks blocks)).runs, (runs-between (node_outside_blocks memory blocks)).runs))
+    ((runs-between (nodes_by_blocks blocks)).runs, (runs-between (fallback_node memory blocks)).runs))
 
 -- if the table is used, each byte of memory is in a run
 covered_by : (nodes : Option ℕ) (left n : ℕ) → (is_some nodes || is_some (if true && is_none nodes then Some n else None)) ≡ true
@@ -176,7 +176,7 @@ given-covers memory off table x used_it is near =
     table (λ r other same. absurd (other same))
     (λ lists kept few same.
     let blocks : List KeptBlock = keep_blocks memory (srat_domains lists) lists.blocks in
-    rw (given-at (nodes_by_blocks blocks) x near, given-at (node_outside_blocks memory blocks) x near, is)
+    rw (given-at (nodes_by_blocks blocks) x near, given-at (fallback_node memory blocks) x near, is)
     (covered_by (nodes_by_blocks blocks x) 0 _)) used_it
 
 -- all addresses of a frame are in runs of the same nodes
@@ -190,7 +190,7 @@ given-frames memory off table whole x near =
     (λ lists kept few.
     let domains : List ℕ = srat_domains lists in
     let nodes : ℕ → Option ℕ = nodes_by_blocks (keep_blocks memory domains lists.blocks) in
-    let left : ℕ → Option ℕ = node_outside_blocks memory (keep_blocks memory domains lists.blocks) in
+    let left : ℕ → Option ℕ = fallback_node memory (keep_blocks memory domains lists.blocks) in
     let near_too : frame_base x < 2 ^ 64 = omega (arith, near) in (
       rw (given-at nodes x near, given-at nodes (frame_base x) near_too) (nodes_frame memory domains lists.blocks x),
       rw (given-at left x near, given-at left (frame_base x) near_too) (left_frame memory whole domains lists.blocks x),

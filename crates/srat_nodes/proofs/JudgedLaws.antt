@@ -9,8 +9,8 @@ use Rattle.srat_reader.specs.Table.{SratView}
 use Rattle.srat_nodes.specs.declared.kept.KeptBlock.{KeptBlock}
 use Rattle.srat_nodes.specs.declared.reasons.Why.TheVariants as why
 use Rattle.srat_nodes.specs.NodeAt.{NumaBlock, same_node}
-use Rattle.srat_nodes.specs.SratNodesView.{node_if_uncovered, count_frames_with_node, lowest_node, nodes_by_blocks, node_outside_blocks, srat_domains, unused_srat, judge_kept_blocks, judge_srat_table}
-use Rattle.srat_nodes.specs.Kept.{is_any_kept, numa_blocks_of, count_with_addresses, first_clash, keep_blocks}
+use Rattle.srat_nodes.specs.SratNodesView.{node_if_uncovered, count_frames_with_node, lowest_node, nodes_by_blocks, fallback_node, srat_domains, unused_srat, judge_kept_blocks, judge_srat_table}
+use Rattle.srat_nodes.specs.Kept.{is_any_kept, numa_blocks_of, count_with_addresses, first_overlap, keep_blocks}
 use Rattle.srat_nodes.specs.Steps.{EndInSpace}
 use Rattle.srat_nodes.proofs.NodesLaws.{node_none}
 use Rattle.srat_nodes.proofs.RestLaws.{space_none}
@@ -27,7 +27,7 @@ whole_domains domains full is few = is ∙ take_all 1025 full (omega (arith, few
 
 -- the results of the last steps, as their contracts state them
 pub record Found (memory : ℕ → Bool) (kept : List KeptBlock) (joined rest : List NumaBlock) (frames : ℕ) : Type 0 where
-  pub apart : first_clash kept ≡ None
+  pub apart : first_overlap kept ≡ None
   pub kept_space : EndInSpace (numa_blocks_of kept)
   pub hulls : IsRunsOf (nodes_by_blocks kept) joined
   pub left : IsRunsOf (node_if_uncovered memory (value_at joined) (lowest_node (numa_blocks_of kept))) rest
@@ -40,22 +40,22 @@ tells_nodes = record { true_is_equal = λ a b same. grind (arith, nat_tests); eq
 -- the results of the last steps, in terms of the definitions
 record IsFoundByDefinition (memory : ℕ → Bool) (kept : List KeptBlock) (joined rest : List NumaBlock) (frames : ℕ) : Type 0 where
   hulls : joined ≡ runs_of same_node (nodes_by_blocks kept)
-  left : rest ≡ runs_of same_node (node_outside_blocks memory kept)
-  counted : count_frames_with_node (node_outside_blocks memory kept) ≡ frames
+  left : rest ≡ runs_of same_node (fallback_node memory kept)
+  counted : count_frames_with_node (fallback_node memory kept) ≡ frames
 
 module _ (memory : ℕ → Bool) (kept : List KeptBlock) (joined rest : List NumaBlock) (frames : ℕ)
     (found : Found memory kept joined rest frames) where
   spoken : IsFoundByDefinition memory kept joined rest frames
   spoken =
       let at_nodes : value_at joined ≡ nodes_by_blocks kept = λ i x. found.hulls.each x i in
-      let left : IsRunsOf (node_outside_blocks memory kept) rest =
+      let left : IsRunsOf (fallback_node memory kept) rest =
       subst (λ (f : ℕ → Option ℕ). IsRunsOf (node_if_uncovered memory f (lowest_node (numa_blocks_of kept))) rest) at_nodes found.left in
-      let at_left : value_at rest ≡ node_outside_blocks memory kept = λ i x. left.each x i in
+      let at_left : value_at rest ≡ fallback_node memory kept = λ i x. left.each x i in
       record {
         hulls = runs_equal_runs_of same_node tells_nodes (nodes_by_blocks kept) joined (λ x far.
             node_none (numa_blocks_of kept) x found.kept_space far)
             found.hulls;
-        left = runs_equal_runs_of same_node tells_nodes (node_outside_blocks memory kept) rest
+        left = runs_equal_runs_of same_node tells_nodes (fallback_node memory kept) rest
             (λ x far. sym (left.each x) ∙ space_none rest x found.left_space far) left;
         counted = ap (λ (f : ℕ → Option ℕ). count_frames_with_node f) (sym at_left) ∙ sym found.counted;
       }
@@ -75,7 +75,7 @@ module _ (memory : ℕ → Bool) (kept : List KeptBlock) (joined rest : List Num
   unfolding judge_kept_blocks
   found_used domains few = rw (found.apart, spoken.counted, lt-leb 256 frames few, spoken.hulls, spoken.left) refl
 
-pub found_overlap : (memory : ℕ → Bool) (domains : List ℕ) (kept : List KeptBlock) (i j : ℕ) → first_clash kept ≡ Some (i, j)
+pub found_overlap : (memory : ℕ → Bool) (domains : List ℕ) (kept : List KeptBlock) (i j : ℕ) → first_overlap kept ≡ Some (i, j)
     → judge_kept_blocks memory domains kept ≡ unused_srat (why.Overlap i j)
 unfolding judge_kept_blocks
 found_overlap memory domains kept i j clash = rw clash refl

@@ -16,8 +16,8 @@ use Rattle.srat_reader.specs.declared.table.SratBlock.{SratBlock}
 use Rattle.srat_nodes.specs.declared.kept.KeptBlock.{KeptBlock}
 use Rattle.srat_nodes.specs.Domains.{is_named_domain, node_of_domain}
 use Rattle.srat_nodes.specs.NodeAt.{NumaBlock, lies_between_blocks, is_in_block_of_node, is_in_gap_of_node, belongs_to_node, first_node_among, node_at}
-use Rattle.srat_nodes.specs.SratNodesView.{lower_node, lowest_node, nodes_by_blocks, node_outside_blocks}
-use Rattle.srat_nodes.specs.Kept.{numa_blocks_of, first_clash, frame_base, meets_memory, is_node_of, block_in_frames, keep_blocks_from, keep_blocks}
+use Rattle.srat_nodes.specs.SratNodesView.{lower_node, lowest_node, nodes_by_blocks, fallback_node}
+use Rattle.srat_nodes.specs.Kept.{numa_blocks_of, first_overlap, frame_base, meets_memory, is_node_of, block_in_frames, keep_blocks_from, keep_blocks}
 use Rattle.srat_nodes.proofs.FilledLaws.{IsAround, IsFilled}
 use Rattle.srat_nodes.proofs.InListLaws.{IsIn, any_member, member_any}
 use Rattle.srat_nodes.proofs.KeptLaws.{addresses_kept}
@@ -55,7 +55,7 @@ node_has : (blocks : List NumaBlock) (x n : ℕ) → node_at blocks x ≡ Some n
 unfolding node_at
 node_has blocks x n at = first_has blocks x n blocks at
 
-pub one_node : (kept : List KeptBlock) → first_clash kept ≡ None → HaveAddresses (numa_blocks_of kept)
+pub one_node : (kept : List KeptBlock) → first_overlap kept ≡ None → HaveAddresses (numa_blocks_of kept)
     → (x n : ℕ) → (belongs_to_node (numa_blocks_of kept) n x ≡ true) ↔ (nodes_by_blocks kept x ≡ Some n)
 one_node kept apart some x n =
     ((λ had. node_at-belongs (numa_blocks_of kept) x n (apart_blocks kept apart) some had), (λ at. node_has (numa_blocks_of kept) x n at))
@@ -160,8 +160,8 @@ pub nodes_frame : (memory : ℕ → Bool) (domains : List ℕ) (blocks : List Sr
 nodes_frame memory domains blocks x = node_frame (numa_blocks_of (keep_blocks memory domains blocks)) x (framed_kept memory domains blocks)
 
 pub left_frame : (memory : ℕ → Bool) → ((x : ℕ) → memory x ≡ memory (frame_base x)) → (domains : List ℕ) (blocks : List SratBlock) (x : ℕ)
-    → node_outside_blocks memory (keep_blocks memory domains blocks) x
-    ≡ node_outside_blocks memory (keep_blocks memory domains blocks) (frame_base x)
+    → fallback_node memory (keep_blocks memory domains blocks) x
+    ≡ fallback_node memory (keep_blocks memory domains blocks) (frame_base x)
 left_frame memory whole domains blocks x = rw (whole x, nodes_frame memory domains blocks x) refl
 
 -- a byte of memory among n addresses
@@ -191,7 +191,8 @@ block_in (j ∷ js) k (inl here) = inl (ap (λ (i : KeptBlock). i.block) here)
 block_in (j ∷ js) k (inr later) = inr (block_in js k later)
 
 -- the node of each kept block has memory
-pub node_memory : (memory : ℕ → Bool) (domains : List ℕ) (blocks : List SratBlock) → first_clash (keep_blocks memory domains blocks) ≡ None
+pub node_memory : (memory : ℕ → Bool) (domains : List ℕ) (blocks : List SratBlock)
+    → first_overlap (keep_blocks memory domains blocks) ≡ None
     → (n : ℕ) → is_node_of (keep_blocks memory domains blocks) n ≡ true
     → (x : ℕ) × (memory x ≡ true) × (nodes_by_blocks (keep_blocks memory domains blocks) x ≡ Some n)
 node_memory memory domains blocks apart n of_block =
@@ -236,7 +237,7 @@ lowest_kept (k ∷ ks) some =
     ]
 
 pub node_of_kept : (memory : ℕ → Bool) (kept : List KeptBlock) → kept ≢ [] → (x n : ℕ)
-    → (nodes_by_blocks kept x ≡ Some n) ⊎ (node_outside_blocks memory kept x ≡ Some n)
+    → (nodes_by_blocks kept x ≡ Some n) ⊎ (fallback_node memory kept x ≡ Some n)
     → is_node_of kept n ≡ true
 node_of_kept memory kept some x n (inl at) =
     let block = node_block (numa_blocks_of kept) n x (node_has (numa_blocks_of kept) x n at) in

@@ -12,7 +12,7 @@ use Rattle.address_runs.specs.Runs.{run_end, lies_in, value_at, IsRunsOf}
 use Rattle.address_runs.proofs.RunsLaws.{inside}
 use Rattle.srat_nodes.specs.declared.kept.KeptBlock.{KeptBlock}
 use Rattle.srat_nodes.specs.NodeAt.{NumaBlock, block_meets, lies_between_blocks, meets_no_other_node, is_in_block_of_node, is_in_gap_of_node, belongs_to_node, first_node_among, node_at}
-use Rattle.srat_nodes.specs.Kept.{numa_blocks_of, is_clash, first_clash}
+use Rattle.srat_nodes.specs.Kept.{numa_blocks_of, nodes_overlap, first_overlap}
 use Rattle.srat_nodes.specs.Steps.{fill_gaps, EndInSpace}
 use Rattle.srat_nodes.proofs.FilledLaws.{IsAround, IsFilled, IsFilledBy, filled_by}
 use Rattle.srat_nodes.proofs.InListLaws.{IsIn, any_member, member_any, all_member, member_all}
@@ -257,7 +257,7 @@ joined_blocks blocks rs apart some known =
     record { runs = joined.runs; each = λ x. node_given blocks rs (fill_gaps rs) x apart some known joined }
 
 -- if no two kept blocks clash, blocks of different nodes share no address
-no_clash : (a b : KeptBlock) (x : ℕ) → is_clash a b ≡ false → lies_in a.block x ≡ true → lies_in b.block x ≡ true → a.block.value
+no_clash : (a b : KeptBlock) (x : ℕ) → nodes_overlap a b ≡ false → lies_in a.block x ≡ true → lies_in b.block x ≡ true → a.block.value
     ≡ b.block.value
 no_clash a b x none lies_a lies_b =
     let in_a = bounds a.block x lies_a in
@@ -280,32 +280,32 @@ kept_member [] b member = absurd member
 kept_member (k ∷ ks) b (inl here) = (k, inl refl, here)
 kept_member (k ∷ ks) b (inr later) = let found = kept_member ks b later in (found.0, inr found.1, found.2)
 
-pub first_none_parts : (a : KeptBlock) (rest : List KeptBlock) → first_clash (a ∷ rest) ≡ None → (find (is_clash a) rest ≡ None)
-    × (first_clash rest ≡ None)
-first_none_parts a rest none = by (find (is_clash a) rest) refl where
-  by : (o : Option KeptBlock) → find (is_clash a) rest ≡ o → (find (is_clash a) rest ≡ None) × (first_clash rest ≡ None)
+pub first_none_parts : (a : KeptBlock) (rest : List KeptBlock) → first_overlap (a ∷ rest) ≡ None → (find (nodes_overlap a) rest ≡ None)
+    × (first_overlap rest ≡ None)
+first_none_parts a rest none = by (find (nodes_overlap a) rest) refl where
+  by : (o : Option KeptBlock) → find (nodes_overlap a) rest ≡ o → (find (nodes_overlap a) rest ≡ None) × (first_overlap rest ≡ None)
   by None at = (at, rw at at none)
   by (Some b) at = absurd (none-some (a.number, b.number) (sym (rw at at none)))
 
-kept_apart : (ks : List KeptBlock) → first_clash ks ≡ None → (a b : KeptBlock) (x : ℕ) → IsIn a ks → IsIn b ks
+kept_apart : (ks : List KeptBlock) → first_overlap ks ≡ None → (a b : KeptBlock) (x : ℕ) → IsIn a ks → IsIn b ks
     → lies_in a.block x ≡ true → lies_in b.block x ≡ true → a.block.value ≡ b.block.value
 kept_apart [] none a b x in_a in_b lies_a lies_b = absurd in_a
 kept_apart (k ∷ ks) none a b x (inl first) (inl second) lies_a lies_b = ap (λ (c : KeptBlock). c.block.value) (first ∙ sym second)
 kept_apart (k ∷ ks) none a b x (inl first) (inr later) lies_a lies_b =
-    rw first (no_clash k b x (find_none (is_clash k) ks b (first_none_parts k ks none).0 later) (rw first at lies_a) lies_b)
+    rw first (no_clash k b x (find_none (nodes_overlap k) ks b (first_none_parts k ks none).0 later) (rw first at lies_a) lies_b)
 kept_apart (k ∷ ks) none a b x (inr later) (inl second) lies_a lies_b =
-    rw second (sym (no_clash k a x (find_none (is_clash k) ks a (first_none_parts k ks none).0 later) (rw second at lies_b) lies_a))
+    rw second (sym (no_clash k a x (find_none (nodes_overlap k) ks a (first_none_parts k ks none).0 later) (rw second at lies_b) lies_a))
 kept_apart (k ∷ ks) none a b x (inr in_a) (inr in_b) lies_a lies_b =
     kept_apart ks (first_none_parts k ks none).1 a b x in_a in_b lies_a lies_b
 
-pub apart_blocks : (ks : List KeptBlock) → first_clash ks ≡ None → HaveOneNodePerAddress (numa_blocks_of ks)
+pub apart_blocks : (ks : List KeptBlock) → first_overlap ks ≡ None → HaveOneNodePerAddress (numa_blocks_of ks)
 apart_blocks ks none a b x in_a in_b lies_a lies_b =
     let one = kept_member ks a in_a in
     let two = kept_member ks b in_b in
     rw (one.2, two.2) (kept_apart ks none one.0 two.0 x one.1 two.1 (rw one.2 at lies_a) (rw two.2 at lies_b))
 
 -- if no two kept blocks clash, the joined runs are the runs of the addresses' nodes
-pub joined_kept : (ks : List KeptBlock) (laid rs joined : List NumaBlock) → first_clash ks ≡ None → HaveAddresses (numa_blocks_of ks)
+pub joined_kept : (ks : List KeptBlock) (laid rs joined : List NumaBlock) → first_overlap ks ≡ None → HaveAddresses (numa_blocks_of ks)
     → IsRunsOf (value_at (numa_blocks_of ks)) laid → rs ≡ laid → joined ≡ fill_gaps rs → IsRunsOf (node_at (numa_blocks_of ks)) joined
 joined_kept ks laid rs joined none some known same is =
     rw (is, same) (joined_blocks (numa_blocks_of ks) laid (apart_blocks ks none) some known)
@@ -315,8 +315,8 @@ joined_kept ks laid rs joined none some known same is =
 abbrev pub HasOwn : (ℕ → Option ℕ) → NumaBlock → Type 0
 HasOwn f b = (x : ℕ) → b.base ≤ x → x < run_end b → f x ≡ Some b.value
 
-own_none : (f : ℕ → Option ℕ) (a b : KeptBlock) → HasOwn f a.block → HasOwn f b.block → is_clash a b ≡ false
-own_none f a b own_a own_b = false_from_ne_true (is_clash a b) (λ clashing.
+own_none : (f : ℕ → Option ℕ) (a b : KeptBlock) → HasOwn f a.block → HasOwn f b.block → nodes_overlap a b ≡ false
+own_none f a b own_a own_b = false_from_ne_true (nodes_overlap a b) (λ clashing.
     let parts = and_parts (not (a.block.value == b.block.value)) (block_meets a.block.base (run_end a.block) b.block) clashing in
     let place = meeting_place a.block.base (run_end a.block) b.block parts.1 in
     let x : ℕ = max a.block.base b.block.base in
@@ -329,11 +329,11 @@ none_found p [] none = refl
 none_found p (y ∷ ys) none = rw (none zero y (omega arith)) (none_found p ys (λ i d lt. none (suc i) d (omega arith)))
 
 pub own_apart : (f : ℕ → Option ℕ) (ks : List KeptBlock)
-    → ((i : ℕ) (d : KeptBlock) → i < length ks → HasOwn f (get_or ks i d).block) → first_clash ks ≡ None
+    → ((i : ℕ) (d : KeptBlock) → i < length ks → HasOwn f (get_or ks i d).block) → first_overlap ks ≡ None
 own_apart f [] own = refl
 own_apart f (k ∷ ks) own =
-    let none : find (is_clash k) ks ≡ None =
-    none_found (is_clash k) ks (λ i d lt. own_none f k (get_or ks i d) (own zero k (omega arith)) (own (suc i) d (omega arith))) in
+    let none : find (nodes_overlap k) ks ≡ None =
+    none_found (nodes_overlap k) ks (λ i d lt. own_none f k (get_or ks i d) (own zero k (omega arith)) (own (suc i) d (omega arith))) in
     rw none (own_apart f ks (λ i d lt. own (suc i) d (omega arith)))
 
 block_in : (ks : List KeptBlock) (i : ℕ) (k : KeptBlock) → i < length ks → k ≡ get_or ks i k → IsIn k.block (numa_blocks_of ks)
@@ -341,14 +341,14 @@ block_in [] i k lt is = absurd (omega arith)
 block_in (c ∷ cs) zero k lt is = inl (ap (λ (d : KeptBlock). d.block) is)
 block_in (c ∷ cs) (suc i) k lt is = inr (block_in cs i k (omega arith) is)
 
-apart_own : (ks : List KeptBlock) (i : ℕ) (k : KeptBlock) → first_clash ks ≡ None → i < length ks → k ≡ get_or ks i k
+apart_own : (ks : List KeptBlock) (i : ℕ) (k : KeptBlock) → first_overlap ks ≡ None → i < length ks → k ≡ get_or ks i k
     → HasOwn (value_at (numa_blocks_of ks)) k.block
 apart_own ks i k none lt is x above under =
     given (numa_blocks_of ks) k.block x (apart_blocks ks none) (block_in ks i k lt is) (inside k.block x above under)
 
 -- the overlaid blocks, as contracts over any type of record see them
 pub laid_own : (ks : List KeptBlock) (laid : List NumaBlock) (i : ℕ) (k : KeptBlock) → IsRunsOf (value_at (numa_blocks_of ks)) laid
-    → first_clash ks ≡ None → i < length ks → k ≡ get_or ks i k → HasOwn (value_at (map (λ (r : NumaBlock). r) laid)) k.block
+    → first_overlap ks ≡ None → i < length ks → k ≡ get_or ks i k → HasOwn (value_at (map (λ (r : NumaBlock). r) laid)) k.block
 laid_own ks laid i k known none lt is x above under =
     rw (map-id laid) (known.each x ∙ apart_own ks i k none lt is x above under)
 

@@ -6,7 +6,7 @@ use Rattle.std.specs.Prelude.{find}
 use Rattle.address_runs.specs.Runs.{range_of_run}
 use Rattle.srat_reader.specs.declared.table.SratBlock.{SratBlock}
 use Rattle.srat_nodes.specs.declared.kept.KeptBlock.{KeptBlock}
-use Rattle.srat_nodes.specs.Kept.{meets_memory, block_in_frames, keep_blocks_from, keep_blocks, is_clash, is_clash_of_numbers, first_clash}
+use Rattle.srat_nodes.specs.Kept.{meets_memory, block_in_frames, keep_blocks_from, keep_blocks, nodes_overlap, numbers_overlap, first_overlap}
 use Rattle.srat_nodes.proofs.InListLaws.{IsIn, any_member, member_any}
 use Rattle.srat_nodes.proofs.NodesLaws.{find_none, first_none_parts}
 
@@ -73,9 +73,9 @@ record Overlap (ks : List KeptBlock) (i j : ℕ) : Type 0 where
   first : one.number ≡ i
   second : other.number ≡ j
   order : i < j
-  clashes : is_clash one other ≡ true
+  clashes : nodes_overlap one other ≡ true
 
-overlap_from : (ks : List KeptBlock) (i j : ℕ) → is_clash_of_numbers ks i j ≡ true → Overlap ks i j
+overlap_from : (ks : List KeptBlock) (i j : ℕ) → numbers_overlap ks i j ≡ true → Overlap ks i j
 overlap_from ks i j test =
     let parts = and_parts (nat_lt i j) _ test in
     let a = any_member _ ks parts.1 in
@@ -93,9 +93,9 @@ overlap_from ks i j test =
       clashes = of_b.1;
     }
 
-overlap_test : (ks : List KeptBlock) (i j : ℕ) → Overlap ks i j → is_clash_of_numbers ks i j ≡ true
+overlap_test : (ks : List KeptBlock) (i j : ℕ) → Overlap ks i j → numbers_overlap ks i j ≡ true
 overlap_test ks i j o =
-    let in_other = member_any (λ (b : KeptBlock). (b.number == j) && is_clash o.one b) ks o.other o.in_other
+    let in_other = member_any (λ (b : KeptBlock). (b.number == j) && nodes_overlap o.one b) ks o.other o.in_other
     (and_from _ _ (eq-eqb _ _ o.second) o.clashes) in
     and_from _ _ (lt-ltb _ _ o.order) (member_any _ ks o.one o.in_one (and_from _ _ (eq-eqb _ _ o.first) in_other))
 
@@ -105,7 +105,7 @@ record WithFirst (c : KeptBlock) (cs : List KeptBlock) (i j : ℕ) : Type 0 wher
   in_other : IsIn other cs
   first : c.number ≡ i
   second : other.number ≡ j
-  clashes : is_clash c other ≡ true
+  clashes : nodes_overlap c other ≡ true
 
 with_first : (n : ℕ) (c : KeptBlock) (cs : List KeptBlock) (i j : ℕ) → Numbered n (c ∷ cs) → Overlap (c ∷ cs) i j
     → WithFirst c cs i j ⊎ Overlap cs i j
@@ -120,7 +120,7 @@ with_first n c cs i j numbered o =
           in_other = later;
           first = sym (number o.one c here) ∙ o.first;
           second = o.second;
-          clashes = ap (λ (k : KeptBlock). is_clash k o.other) (sym here) ∙ o.clashes;
+          clashes = ap (λ (k : KeptBlock). nodes_overlap k o.other) (sym here) ∙ o.clashes;
         })
       ]
       | inr later ↦ elim o.in_other as (λ _. WithFirst c cs i j ⊎ Overlap cs i j) [
@@ -143,16 +143,16 @@ record IsLeastClash (ks : List KeptBlock) (i j : ℕ) : Type 0 where
   pair : Overlap ks i j
   least : (k l : ℕ) → Overlap ks k l → (i < k) ⊎ ((i ≡ k) × (j ≤ l))
 
-told : (n : ℕ) (ks : List KeptBlock) (i j : ℕ) → Numbered n ks → first_clash ks ≡ Some (i, j) → IsLeastClash ks i j
+told : (n : ℕ) (ks : List KeptBlock) (i j : ℕ) → Numbered n ks → first_overlap ks ≡ Some (i, j) → IsLeastClash ks i j
 told n [] i j numbered is = absurd (none-some (i, j) is)
-told n (c ∷ cs) i j numbered is = by (find (is_clash c) cs) refl (told (c.number + 1) cs i j numbered.1) is where
-  by : (o : Option KeptBlock) → find (is_clash c) cs ≡ o → (first_clash cs ≡ Some (i, j) → IsLeastClash cs i j)
-      → first_clash (c ∷ cs) ≡ Some (i, j) → IsLeastClash (c ∷ cs) i j
+told n (c ∷ cs) i j numbered is = by (find (nodes_overlap c) cs) refl (told (c.number + 1) cs i j numbered.1) is where
+  by : (o : Option KeptBlock) → find (nodes_overlap c) cs ≡ o → (first_overlap cs ≡ Some (i, j) → IsLeastClash cs i j)
+      → first_overlap (c ∷ cs) ≡ Some (i, j) → IsLeastClash (c ∷ cs) i j
   by (Some d) at rest told_at =
       let same = some_pair_parts c.number i d.number j (rw at at told_at) in
       let first : c.number ≡ i = same.0 in
       let second : d.number ≡ j = same.1 in
-      let found = find_first (is_clash c) (c.number + 1) cs d numbered.1 at in
+      let found = find_first (nodes_overlap c) (c.number + 1) cs d numbered.1 at in
       record {
         pair = record {
           one = c;
@@ -185,18 +185,18 @@ told n (c ∷ cs) i j numbered is = by (find (is_clash c) cs) refl (told (c.numb
           clashes = later.pair.clashes;
         };
         least = λ k l o. elim (with_first n c cs k l numbered o) as (λ _. (i < k) ⊎ ((i ≡ k) × (j ≤ l))) [
-          | inl w ↦ absurd (true≢false (sym w.clashes ∙ find_none (is_clash c) cs w.other at w.in_other))
+          | inl w ↦ absurd (true≢false (sym w.clashes ∙ find_none (nodes_overlap c) cs w.other at w.in_other))
           | inr o_later ↦ later.least k l o_later
         ];
       }
 
 -- if no pair is reported, no pair clashes
-no_overlap : (n : ℕ) (ks : List KeptBlock) (i j : ℕ) → Numbered n ks → first_clash ks ≡ None → Overlap ks i j → ⊥
+no_overlap : (n : ℕ) (ks : List KeptBlock) (i j : ℕ) → Numbered n ks → first_overlap ks ≡ None → Overlap ks i j → ⊥
 no_overlap n [] i j numbered none o = absurd o.in_one
 no_overlap n (c ∷ cs) i j numbered none o =
     let parts = first_none_parts c cs none in
     elim (with_first n c cs i j numbered o) as (λ _. ⊥) [
-      | inl w ↦ true≢false (sym w.clashes ∙ find_none (is_clash c) cs w.other parts.0 w.in_other)
+      | inl w ↦ true≢false (sym w.clashes ∙ find_none (nodes_overlap c) cs w.other parts.0 w.in_other)
       | inr later ↦ no_overlap (c.number + 1) cs i j numbered.1 parts.1 later
     ]
 
@@ -205,12 +205,12 @@ module _ (memory : ℕ → Bool) (domains : List ℕ) (blocks : List SratBlock) 
   abbrev ks : List KeptBlock
   ks = keep_blocks memory domains blocks
 
-  pub pair_overlaps : (i j : ℕ) → first_clash ks ≡ Some (i, j) → is_clash_of_numbers ks i j ≡ true
+  pub pair_overlaps : (i j : ℕ) → first_overlap ks ≡ Some (i, j) → numbers_overlap ks i j ≡ true
   pair_overlaps i j is = overlap_test ks i j (told 0 ks i j (kept_numbered memory domains 0 blocks) is).pair
 
-  pub pair_least : (i j k l : ℕ) → first_clash ks ≡ Some (i, j) → is_clash_of_numbers ks k l ≡ true → (i < k) ⊎ ((i ≡ k) × (j ≤ l))
+  pub pair_least : (i j k l : ℕ) → first_overlap ks ≡ Some (i, j) → numbers_overlap ks k l ≡ true → (i < k) ⊎ ((i ≡ k) × (j ≤ l))
   pair_least i j k l is test = (told 0 ks i j (kept_numbered memory domains 0 blocks) is).least k l (overlap_from ks k l test)
 
-  pub none_overlap : (k l : ℕ) → first_clash ks ≡ None → is_clash_of_numbers ks k l ≡ false
-  none_overlap k l none = false_from_ne_true (is_clash_of_numbers ks k l) (λ test.
+  pub none_overlap : (k l : ℕ) → first_overlap ks ≡ None → numbers_overlap ks k l ≡ false
+  none_overlap k l none = false_from_ne_true (numbers_overlap ks k l) (λ test.
       no_overlap 0 ks k l (kept_numbered memory domains 0 blocks) none (overlap_from ks k l test))

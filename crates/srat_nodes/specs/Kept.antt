@@ -71,16 +71,17 @@ abbrev pub count_with_addresses : List SratBlock → ℕ
 count_with_addresses blocks = count_by (λ (b : SratBlock). nat_lt 0 b.range.size) blocks
 
 -- whether two kept blocks have different nodes and share an address
-abbrev pub is_clash : KeptBlock → KeptBlock → Bool
-is_clash a b = not (a.block.value == b.block.value) && block_meets a.block.base (run_end a.block) b.block
+abbrev pub nodes_overlap : KeptBlock → KeptBlock → Bool
+nodes_overlap a b = not (a.block.value == b.block.value) && block_meets a.block.base (run_end a.block) b.block
 
 -- whether the kept blocks with the numbers i and j, where i is below j, have different nodes and
 -- share an address
-abbrev pub is_clash_of_numbers : List KeptBlock → ℕ → ℕ → Bool
-is_clash_of_numbers kept i j = nat_lt i j && list_any (λ a. (a.number == i) && list_any (λ b. (b.number == j) && is_clash a b) kept) kept
+abbrev pub numbers_overlap : List KeptBlock → ℕ → ℕ → Bool
+numbers_overlap kept i j = nat_lt i j && list_any (λ a. (a.number == i) && list_any (λ b. (b.number == j) && nodes_overlap a b) kept) kept
 
 -- the numbers of the first kept block that shares an address with a later one of another node, and
 -- of the first such later one; None if there are no such blocks
-abbrev pub first_clash : List KeptBlock → Option (ℕ × ℕ)
-first_clash [] = None
-first_clash (a ∷ rest) = option_or (option_map (λ (b : KeptBlock). (a.number, b.number)) (find (is_clash a) rest)) (first_clash rest)
+abbrev pub first_overlap : List KeptBlock → Option (ℕ × ℕ)
+first_overlap [] = None
+first_overlap (a ∷ rest) =
+    option_or (option_map (λ (b : KeptBlock). (a.number, b.number)) (find (nodes_overlap a) rest)) (first_overlap rest)

@@ -13,7 +13,7 @@ use Rattle.bm_base.specs.declared.zone.TheConstants.{MAX_NODES}
 use Rattle.srat_nodes.specs.declared.reasons.TheConstants.{MAX_BLOCKS, UNCOVERED_FRAMES}
 use Rattle.srat_nodes.specs.Domains.{named_domains}
 use Rattle.srat_nodes.specs.NodeAt.{NumaBlock, node_at, same_node}
-use Rattle.srat_nodes.specs.Kept.{is_any_kept, numa_blocks_of, count_with_addresses, first_clash, keep_blocks}
+use Rattle.srat_nodes.specs.Kept.{is_any_kept, numa_blocks_of, count_with_addresses, first_overlap, keep_blocks}
 
 -- node n for an address of memory to which `nodes` gives no node, and None for any other address
 abbrev pub node_if_uncovered : (ℕ → Bool) → (ℕ → Option ℕ) → ℕ → ℕ → Option ℕ
@@ -81,14 +81,14 @@ nodes_by_blocks kept = node_at (numa_blocks_of kept)
 
 -- the node of each address of memory to which the kept blocks give no node; it is the lowest node
 -- of these blocks. None for any other address.
-abbrev pub node_outside_blocks : (ℕ → Bool) → List KeptBlock → ℕ → Option ℕ
-node_outside_blocks memory kept = node_if_uncovered memory (nodes_by_blocks kept) (lowest_node (numa_blocks_of kept))
+abbrev pub fallback_node : (ℕ → Bool) → List KeptBlock → ℕ → Option ℕ
+fallback_node memory kept = node_if_uncovered memory (nodes_by_blocks kept) (lowest_node (numa_blocks_of kept))
 
 -- the result by the kept blocks. The table isn't used if two of different nodes overlap, or if they
 -- leave too much memory without a node.
 unfoldable pub judge_kept_blocks : (ℕ → Bool) → List ℕ → List KeptBlock → SratNodesView
 judge_kept_blocks memory domains kept =
-    nodes_if_apart (first_clash kept) (nodes_if_covering domains (nodes_by_blocks kept) (node_outside_blocks memory kept))
+    nodes_if_apart (first_overlap kept) (nodes_if_covering domains (nodes_by_blocks kept) (fallback_node memory kept))
 
 -- the domains that a table names, in the order of their nodes
 abbrev pub srat_domains : SratView → List ℕ

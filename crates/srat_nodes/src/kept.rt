@@ -4,7 +4,7 @@
 
 ghost use Rattle.std.specs.Prelude.{◌≡◌, ◌↔◌, ℕ, ◌+◌, ◌++◌, ◌^◌, ◌<◌, ◌≤◌, None, IsTrue, OnOk, IfOk, length, option_map, find};
 ghost use Rattle.address_runs.specs.Runs.{AreRuns, IsRunsOf, run_end, value_at};
-ghost use Rattle.srat_nodes.specs.Kept.{numa_blocks_of, round_ends_down, keep_block, block_in_frames, keep_blocks, is_any_kept, count_with_addresses, is_clash, first_clash};
+ghost use Rattle.srat_nodes.specs.Kept.{numa_blocks_of, round_ends_down, keep_block, block_in_frames, keep_blocks, is_any_kept, count_with_addresses, nodes_overlap, first_overlap};
 ghost use Rattle.srat_nodes.specs.Steps.{EndInSpace, is_in_runs};
 ghost use Rattle.srat_nodes.specs.NodeAt.{block_meets};
 
@@ -138,9 +138,9 @@ fn block_in_frames(domains: &[u32], block: &SratBlock) -> NodeRange
 /// there are no such blocks. Of several pairs it returns the one with the least first number, and
 /// of these the one with the least second number. `laid` has the runs of the overlaid blocks, by
 /// which one look-up for each block finds out whether any two overlap.
-pub fn first_clash(kept: &[KeptBlock], laid: &Vec<NodeRange>) -> Option<(u32, u32)>
+pub fn first_overlap(kept: &[KeptBlock], laid: &Vec<NodeRange>) -> Option<(u32, u32)>
     requires { IsRunsOf (value_at (numa_blocks_of kept.now)) laid.now.items }
-    ensures { result ≡ first_clash kept.now }
+    ensures { result ≡ first_overlap kept.now }
 {
     if are_apart(kept, laid) {
         return None;
@@ -153,7 +153,7 @@ pub fn first_clash(kept: &[KeptBlock], laid: &Vec<NodeRange>) -> Option<(u32, u3
 /// look-up for each block is therefore enough.
 fn are_apart(kept: &[KeptBlock], laid: &Vec<NodeRange>) -> bool
     requires { IsRunsOf (value_at (numa_blocks_of kept.now)) laid.now.items }
-    ensures { IsTrue result ↔ (first_clash kept.now ≡ None) }
+    ensures { IsTrue result ↔ (first_overlap kept.now ≡ None) }
 {
     for one in kept {
         if !has_value_throughout(laid, &one.block.range, one.block.value) {
@@ -167,7 +167,7 @@ fn are_apart(kept: &[KeptBlock], laid: &Vec<NodeRange>) -> bool
 /// there are no such blocks. Of several pairs it returns the one with the least first number, and
 /// of these the one with the least second number. Compares each pair of blocks.
 fn first_pair(kept: &[KeptBlock]) -> Option<(u32, u32)>
-    ensures { result ≡ first_clash kept.now }
+    ensures { result ≡ first_overlap kept.now }
 {
     let mut rest = kept;
     while let [block, others @ ..] = rest {
@@ -182,10 +182,11 @@ fn first_pair(kept: &[KeptBlock]) -> Option<(u32, u32)>
 /// Returns the number of the first member of `others` that has another node than `block` and shares
 /// an address with it, or `None` if there is no such member.
 fn overlapping(block: &KeptBlock, others: &[KeptBlock]) -> Option<u32>
-    ensures { result ≡ option_map (λ other. other.number) (find (is_clash block.now) others.now) }
+    ensures { result ≡ option_map (λ other. other.number) (find
+        (nodes_overlap block.now) others.now) }
 {
     for other in others {
-        if is_clash(block, other) {
+        if nodes_overlap(block, other) {
             return Some(other.number);
         }
     }
@@ -193,8 +194,8 @@ fn overlapping(block: &KeptBlock, others: &[KeptBlock]) -> Option<u32>
 }
 
 /// Tests whether two blocks have different nodes and share an address.
-fn is_clash(block: &KeptBlock, other: &KeptBlock) -> bool
-    ensures { result ≡ is_clash block.now other.now }
+fn nodes_overlap(block: &KeptBlock, other: &KeptBlock) -> bool
+    ensures { result ≡ nodes_overlap block.now other.now }
 {
     block.block.value != other.block.value && runs_overlap(&block.block, &other.block)
 }

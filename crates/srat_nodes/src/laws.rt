@@ -12,13 +12,14 @@ ghost use Rattle.srat_nodes.specs.declared.reasons.Why.TheVariants as why;
 ghost use Rattle.bm_base.specs.declared.zone.TheConstants.{MAX_NODES};
 ghost use Rattle.srat_nodes.specs.Domains.{is_named_domain, domains_once, node_of_domain};
 ghost use Rattle.srat_nodes.specs.NodeAt.{NumaBlock, belongs_to_node};
-ghost use Rattle.srat_nodes.specs.SratNodesView.{judge_srat, node_outside_blocks, nodes_by_blocks};
-ghost use Rattle.srat_nodes.specs.Kept.{numa_blocks_of, is_clash_of_numbers, first_clash, frame_base, is_node_of, keep_blocks};
+ghost use Rattle.srat_nodes.specs.SratNodesView.{judge_srat, fallback_node, nodes_by_blocks};
+ghost use Rattle.srat_nodes.specs.Kept.{numa_blocks_of, numbers_overlap, first_overlap, frame_base, is_node_of, keep_blocks};
 
 /// Law: an address belongs to at most one node, the one that `nodes_by_blocks` gives it, if no kept
 /// block is empty and no two kept blocks of different nodes share an address.
 pub fn address_has_one_node()
-    ensures { (kept : List AnyKept) → first_clash kept ≡ None → HaveAddresses (numa_blocks_of kept)
+    ensures { (kept : List AnyKept) → first_overlap kept ≡ None
+        → HaveAddresses (numa_blocks_of kept)
         →
         (x n : ℕ) → (belongs_to_node (numa_blocks_of kept) n x ≡ true)
         ↔ (nodes_by_blocks kept x ≡ Some n) }
@@ -53,15 +54,15 @@ pub fn nodes_by_first_naming()
 /// pair.
 pub fn least_overlap()
     ensures pair { (memory : ℕ → Bool) (domains : List ℕ) (blocks : List AnyBlock) (i j : ℕ) →
-        first_clash (keep_blocks memory domains blocks) ≡ Some (i, j)
-        → is_clash_of_numbers (keep_blocks memory domains blocks) i j ≡ true }
+        first_overlap (keep_blocks memory domains blocks) ≡ Some (i, j)
+        → numbers_overlap (keep_blocks memory domains blocks) i j ≡ true }
     ensures least { (memory : ℕ → Bool) (domains : List ℕ) (blocks : List AnyBlock) (i j k l : ℕ) →
-        first_clash (keep_blocks memory domains blocks) ≡ Some (i, j)
-        → is_clash_of_numbers (keep_blocks memory domains blocks) k l ≡ true →
+        first_overlap (keep_blocks memory domains blocks) ≡ Some (i, j)
+        → numbers_overlap (keep_blocks memory domains blocks) k l ≡ true →
         (i < k) ⊎ ((i ≡ k) × (j ≤ l)) }
     ensures none { (memory : ℕ → Bool) (domains : List ℕ) (blocks : List AnyBlock) (k l : ℕ) →
-        first_clash (keep_blocks memory domains blocks) ≡ None
-        → is_clash_of_numbers (keep_blocks memory domains blocks) k l ≡ false }
+        first_overlap (keep_blocks memory domains blocks) ≡ None
+        → numbers_overlap (keep_blocks memory domains blocks) k l ≡ false }
 {}
 
 /// Law: an address has the same node as the first address of its frame. If memory consists of whole
@@ -73,8 +74,8 @@ pub fn frame_has_one_node()
         ≡ nodes_by_blocks (keep_blocks memory domains blocks) (frame_base x) }
     ensures left { (memory : ℕ → Bool) → ((x : ℕ) → memory x ≡ memory (frame_base x)) →
         (domains : List ℕ) (blocks : List AnyBlock) (x : ℕ) →
-        node_outside_blocks memory (keep_blocks memory domains blocks) x
-        ≡ node_outside_blocks memory (keep_blocks memory domains blocks) (frame_base x) }
+        fallback_node memory (keep_blocks memory domains blocks) x
+        ≡ fallback_node memory (keep_blocks memory domains blocks) (frame_base x) }
 {}
 
 /// Law: if no two kept blocks of different nodes overlap, each node of a kept block has at least
@@ -82,12 +83,12 @@ pub fn frame_has_one_node()
 /// block, also that of memory to which the blocks give no node.
 pub fn kept_nodes_have_memory()
     ensures memory { (memory : ℕ → Bool) (domains : List ℕ) (blocks : List AnyBlock) →
-        first_clash (keep_blocks memory domains blocks) ≡ None →
+        first_overlap (keep_blocks memory domains blocks) ≡ None →
         (n : ℕ) → is_node_of (keep_blocks memory domains blocks) n ≡ true →
         (x : ℕ) × (memory x ≡ true)
         × (nodes_by_blocks (keep_blocks memory domains blocks) x ≡ Some n) }
     ensures block { (memory : ℕ → Bool) (kept : List AnyKept) → kept ≢ [] →
-        (x n : ℕ) → (nodes_by_blocks kept x ≡ Some n) ⊎ (node_outside_blocks memory kept x ≡ Some n)
+        (x n : ℕ) → (nodes_by_blocks kept x ≡ Some n) ⊎ (fallback_node memory kept x ≡ Some n)
         → is_node_of kept n ≡ true }
 {}
 

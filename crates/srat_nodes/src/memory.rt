@@ -9,7 +9,7 @@ ghost use Rattle.srat_nodes.specs.Steps.{run_without_node, is_in_runs};
 
 use address_runs::{RunOf, overlay_all};
 use bm_base::{Memory, Range};
-use run_edits::seek;
+use run_edits::first_ending_above;
 use std::alloc::Global;
 
 /// Returns the runs of memory, maximal ranges of addresses that are in a range of `memory`, in
@@ -58,7 +58,7 @@ pub fn meets_memory(memory: &Vec<RunOf<bool>>, range: &Range) -> bool
     requires { AreRuns memory.now.items }
     ensures { result ≡ meets_memory (is_in_runs memory.now.items) range.now }
 {
-    let first = seek(memory, range.base) as usize;
+    let first = first_ending_above(memory, range.base) as usize;
     if first >= memory.len() {
         return false;
     }

@@ -11,7 +11,7 @@ ghost use Rattle.srat_nodes.specs.Steps.{EndInSpace};
 use crate::domains::named_domains;
 use crate::hulls::{fill_gaps, overlay_blocks};
 use crate::kept::{
-    KeptBlock, NodeRange, count_with_addresses, first_clash, is_any_kept, keep_blocks,
+    KeptBlock, NodeRange, count_with_addresses, first_overlap, is_any_kept, keep_blocks,
 };
 use crate::memory::memory_runs;
 use crate::rest::{count_frames, uncovered_runs};
@@ -154,7 +154,7 @@ fn judge_kept_blocks(
         ≡ judge_kept_blocks (is_in_any_range memory.now) domains.items kept.now) }
 {
     let laid = overlay_blocks(alloc, kept)?;
-    if let Some((i, j)) = first_clash(kept, &laid) {
+    if let Some((i, j)) = first_overlap(kept, &laid) {
         return Ok(unused_srat(alloc, Why::Overlap { i, j }));
     }
     let joined = fill_gaps(alloc, &laid)?;

@@ -5,7 +5,7 @@ use Rattle.buddy_blocks.specs.Frames.{Frames}
 use Rattle.zone_spans.specs.declared.span.Span.{Span}
 use Rattle.zone_spans.specs.declared.hull.HullFrames.{HullFrames}
 use Rattle.zone_spans.specs.Spans.{is_in_node_zone, with_frames, span_below, count_below_in_zone}
-use Rattle.zone_spans.specs.Hull.{clamp_to_zone, hull_below, hull_part, populated_spans}
+use Rattle.zone_spans.specs.Hull.{clamp_to_zone, hull_below, span_in_hull, populated_spans}
 use Rattle.zone_spans.specs.Slots.{zone_index, frames_with_node_run, slot_after}
 
 -- frames 1 and 3 are memory of node 7
@@ -43,7 +43,7 @@ hull_examples : (hull_below by_turns 7 5 ≡ Some (record { first = 1; end = 4 }
     × (hull_below by_turns 8 5 ≡ Some (record { first = 2; end = 3 }))
     × (hull_below by_turns 7 3 ≡ Some (record { first = 1; end = 2 }))
     × (hull_below by_turns 6 5 ≡ None)
-    × (hull_part 6 zone.Dma 0 None ≡ None)
+    × (span_in_hull 6 zone.Dma 0 None ≡ None)
 unfolding hull_below
 hull_examples = (refl, refl, refl, refl, refl)
 
@@ -56,16 +56,17 @@ below_1_gib = Some (record { first = 1; end = 262144 })
 
 -- a hull is cut at 16 MiB and 4 GiB, also if a zone has none of the node's frames; a zone that the
 -- hull doesn't touch has no span, also if the hull ends at its border
-part_examples : (hull_part 0 zone.Dma 3995 across_all ≡ Some (record { node = 0; zone = zone.Dma; start = 1; end = 4096; present = 3995 }))
-    × (hull_part 0 zone.Dma32 0 across_all ≡ Some (record { node = 0; zone = zone.Dma32; start = 4096; end = 1048576; present = 0 }))
-    × (hull_part 0 zone.Normal 74565 across_all
+part_examples : (span_in_hull 0 zone.Dma 3995 across_all
+    ≡ Some (record { node = 0; zone = zone.Dma; start = 1; end = 4096; present = 3995 }))
+    × (span_in_hull 0 zone.Dma32 0 across_all ≡ Some (record { node = 0; zone = zone.Dma32; start = 4096; end = 1048576; present = 0 }))
+    × (span_in_hull 0 zone.Normal 74565 across_all
     ≡ Some (record { node = 0; zone = zone.Normal; start = 1048576; end = 1123141; present = 74565 }))
-    × (hull_part 0 zone.Dma32 258048 below_1_gib
+    × (span_in_hull 0 zone.Dma32 258048 below_1_gib
     ≡ Some (record { node = 0; zone = zone.Dma32; start = 4096; end = 262144; present = 258048 }))
-    × (hull_part 0 zone.Normal 0 below_1_gib ≡ None)
-    × (hull_part 0 zone.Dma32 0 (Some (record { first = 1; end = 4096 })) ≡ None)
-    × (hull_part 0 zone.Dma 0 (Some (record { first = 4096; end = 4097 })) ≡ None)
-    × (hull_part 0 zone.Dma 1 (Some (record { first = 4095; end = 4097 }))
+    × (span_in_hull 0 zone.Normal 0 below_1_gib ≡ None)
+    × (span_in_hull 0 zone.Dma32 0 (Some (record { first = 1; end = 4096 })) ≡ None)
+    × (span_in_hull 0 zone.Dma 0 (Some (record { first = 4096; end = 4097 })) ≡ None)
+    × (span_in_hull 0 zone.Dma 1 (Some (record { first = 4095; end = 4097 }))
     ≡ Some (record { node = 0; zone = zone.Dma; start = 4095; end = 4096; present = 1 }))
 part_examples = (refl, refl, refl, refl, refl, refl, refl, refl)
 

@@ -12,7 +12,7 @@ use Rattle.buddy_blocks.proofs.CountLaws.{zone_is}
 use Rattle.zone_spans.specs.declared.span.Span.{Span}
 use Rattle.zone_spans.specs.declared.hull.HullFrames.{HullFrames}
 use Rattle.zone_spans.specs.Spans.{is_in_node_zone, span_of, count_below_in_zone}
-use Rattle.zone_spans.specs.Hull.{zone_start, zone_end, hull_with_frame, hull_below, hull_part, hull_span_of, hull_spans_of_node, hull_spans_from, IsInHull, IsHullSpan}
+use Rattle.zone_spans.specs.Hull.{zone_start, zone_end, hull_with_frame, hull_below, span_in_hull, hull_span_of, hull_spans_of_node, hull_spans_from, IsInHull, IsHullSpan}
 use Rattle.zone_spans.specs.HullSlots.{hull_with_span, hull_of_slots, present_in_slot, hull_spans_of_slots}
 use Rattle.zone_spans.proofs.SpanLaws.{IsToldBelow, told_below}
 
@@ -160,7 +160,7 @@ own_frame f n x below is =
 
 -- the clamped ends are inside the zone's borders, and a frame between the ends is between the
 -- clamped ones exactly if it is in the zone
-part_is : (n : ℕ) (z : Zone) (c : ℕ) (h : HullFrames) (s : Span) → h.end ≤ 2 ^ 52 → hull_part n z c (Some h) ≡ Some s
+part_is : (n : ℕ) (z : Zone) (c : ℕ) (h : HullFrames) (s : Span) → h.end ≤ 2 ^ 52 → span_in_hull n z c (Some h) ≡ Some s
     → (s.node ≡ n) × (s.zone ≡ z) × (s.start < s.end) × (zone_start z ≤ s.start) × (s.end ≤ zone_end z) × (s.present ≡ c)
     × ((x : ℕ) → s.start ≤ x → x < s.end → (zone_of x ≡ z) × (h.first ≤ x) × (x < h.end))
     × ((x : ℕ) → zone_of x ≡ z → h.first ≤ x → x < h.end → (s.start ≤ x) × (x < s.end))
@@ -169,7 +169,7 @@ part_is n zone.Dma32 c h s fits is = grind (arith, nat_tests)
 part_is n zone.Normal c h s fits is = grind (arith, nat_tests)
 
 -- if no frame of the hull is in the zone there is no span
-no_part : (n : ℕ) (z : Zone) (c : ℕ) (h : HullFrames) (x : ℕ) → h.end ≤ 2 ^ 52 → hull_part n z c (Some h) ≡ None → zone_of x ≡ z
+no_part : (n : ℕ) (z : Zone) (c : ℕ) (h : HullFrames) (x : ℕ) → h.end ≤ 2 ^ 52 → span_in_hull n z c (Some h) ≡ None → zone_of x ≡ z
     → h.first ≤ x → x < h.end → ⊥
 no_part n zone.Dma c h x fits none here low high = grind (arith, nat_tests)
 no_part n zone.Dma32 c h x fits none here low high = grind (arith, nat_tests)
@@ -197,7 +197,7 @@ hull_has f n h x hull inside =
     (omega (arith, low, inside.low_below), omega (arith, high, inside.high_above))
 
 hull_span_told : (f : Frames) (n : ℕ) (z : Zone) (o : Option HullFrames) (s : Span) → IsHullIfSome (is_of_node f n) (2 ^ 52) o
-    → hull_part n z (count_below_in_zone f n z (2 ^ 52)) o ≡ Some s → IsHullSpan f n z s
+    → span_in_hull n z (count_below_in_zone f n z (2 ^ 52)) o ≡ Some s → IsHullSpan f n z s
 hull_span_told f n z None s told is = grind arith
 hull_span_told f n z (Some h) s told is =
     let part = part_is n z (count_below_in_zone f n z (2 ^ 52)) h s told.within is in
@@ -221,7 +221,7 @@ unfolding hull_span_of
 is_hull_span f n z s is = hull_span_told f n z (hull_below f n (2 ^ 52)) s (is_hull_below f n (2 ^ 52)) is
 
 no_hull_told : (f : Frames) (n : ℕ) (z : Zone) (o : Option HullFrames) (x : ℕ) → IsHullIfSome (is_of_node f n) (2 ^ 52) o
-    → hull_part n z (count_below_in_zone f n z (2 ^ 52)) o ≡ None → zone_of x ≡ z → IsInHull f n x → ⊥
+    → span_in_hull n z (count_below_in_zone f n z (2 ^ 52)) o ≡ None → zone_of x ≡ z → IsInHull f n x → ⊥
 no_hull_told f n z None x told none here inside = grind (arith, told inside.high, inside.high_fits, inside.high_is)
 no_hull_told f n z (Some h) x told none here inside =
     let ends = hull_has f n h x told inside in

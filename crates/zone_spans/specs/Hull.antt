@@ -45,16 +45,16 @@ hull_below f n (suc m) = if is_node (f m) n then Some (hull_with_frame m (hull_b
 
 -- the span of a zone of a node with this hull: the hull with both ends clamped to the zone; None
 -- if no frame of the hull is in the zone
-abbrev pub hull_part : ℕ → Zone → ℕ → Option HullFrames → Option Span
-hull_part n z present None = None
-hull_part n z present (Some h) =
+abbrev pub span_in_hull : ℕ → Zone → ℕ → Option HullFrames → Option Span
+span_in_hull n z present None = None
+span_in_hull n z present (Some h) =
     if nat_lt (clamp_to_zone z h.first) (clamp_to_zone z h.end)
     then Some (record { node = n; zone = z; start = clamp_to_zone z h.first; end = clamp_to_zone z h.end; present = present })
     else None
 
 -- the span of a node and a zone by the node's hull; `present` counts the node's frames in the zone
 unfoldable pub hull_span_of : Frames → ℕ → Zone → Option Span
-hull_span_of f n z = hull_part n z (count_below_in_zone f n z (2 ^ 52)) (hull_below f n (2 ^ 52))
+hull_span_of f n z = span_in_hull n z (count_below_in_zone f n z (2 ^ 52)) (hull_below f n (2 ^ 52))
 
 -- the spans of the zones of one node by the node's hull, from Dma to Normal
 abbrev pub hull_spans_of_node : Frames → ℕ → List Span

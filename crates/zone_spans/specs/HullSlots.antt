@@ -3,7 +3,7 @@ use Rattle.std.specs.Prelude.{ℕ, Option, Some, None, List, ◌++◌, option_to
 use Rattle.bm_base.specs.declared.zone.Zone.TheVariants as zone
 use Rattle.zone_spans.specs.declared.span.Span.{Span}
 use Rattle.zone_spans.specs.declared.hull.HullFrames.{HullFrames}
-use Rattle.zone_spans.specs.Hull.{hull_part}
+use Rattle.zone_spans.specs.Hull.{span_in_hull}
 
 -- the hull extended to the end of the span, whose frames are above all frames of the hull
 abbrev pub hull_with_span : Option HullFrames → Option Span → Option HullFrames
@@ -25,6 +25,6 @@ present_in_slot (Some s) = s.present
 abbrev pub hull_spans_of_slots : ℕ → Option Span → Option Span → Option Span → List Span
 hull_spans_of_slots n dma dma32 normal =
     let hull = hull_of_slots dma dma32 normal in
-    option_to_list (hull_part n zone.Dma (present_in_slot dma) hull)
-    ++ (option_to_list (hull_part n zone.Dma32 (present_in_slot dma32) hull)
-    ++ option_to_list (hull_part n zone.Normal (present_in_slot normal) hull))
+    option_to_list (span_in_hull n zone.Dma (present_in_slot dma) hull)
+    ++ (option_to_list (span_in_hull n zone.Dma32 (present_in_slot dma32) hull)
+    ++ option_to_list (span_in_hull n zone.Normal (present_in_slot normal) hull))

@@ -5,7 +5,7 @@
 ghost use Rattle.std.specs.Prelude.{◌≡◌, ℕ, ◌++◌, None, get_or, option_to_list, IfOk, OnOk};
 ghost use Rattle.buddy_blocks.specs.Frames.{Frames};
 ghost use Rattle.zone_spans.specs.Slots.{SlotsHoldSpans};
-ghost use Rattle.zone_spans.specs.Hull.{zone_start, zone_end, clamp_to_zone, hull_part, hull_spans_of};
+ghost use Rattle.zone_spans.specs.Hull.{zone_start, zone_end, clamp_to_zone, span_in_hull, hull_spans_of};
 ghost use Rattle.zone_spans.specs.HullSlots.{hull_with_span, hull_of_slots, present_in_slot, hull_spans_of_slots};
 
 use crate::span::Span;
@@ -63,15 +63,15 @@ fn add_hull_spans(
     let hull = hull_of_slots(dma, dma32, normal);
     push_if_some(
         spans,
-        hull_part(node, Zone::Dma, present_in_slot(dma), hull),
+        span_in_hull(node, Zone::Dma, present_in_slot(dma), hull),
     )?;
     push_if_some(
         spans,
-        hull_part(node, Zone::Dma32, present_in_slot(dma32), hull),
+        span_in_hull(node, Zone::Dma32, present_in_slot(dma32), hull),
     )?;
     push_if_some(
         spans,
-        hull_part(node, Zone::Normal, present_in_slot(normal), hull),
+        span_in_hull(node, Zone::Normal, present_in_slot(normal), hull),
     )
 }
 
@@ -139,8 +139,8 @@ fn present_in_slot(slot: Option<Span>) -> u64
 
 /// Returns the span of a zone of the node by the node's hull: both ends clamped to the zone's
 /// borders. Returns `None` if no frame of the hull is in the zone.
-fn hull_part(node: u32, zone: Zone, present: u64, hull: Option<HullFrames>) -> Option<Span>
-    ensures { result ≡ hull_part node zone present hull }
+fn span_in_hull(node: u32, zone: Zone, present: u64, hull: Option<HullFrames>) -> Option<Span>
+    ensures { result ≡ span_in_hull node zone present hull }
 {
     let hull = hull?;
     let start = clamp_to_zone(zone, hull.first);

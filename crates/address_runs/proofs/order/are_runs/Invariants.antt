@@ -5,8 +5,8 @@ use Rattle.address_runs.proofs.order.are_runs.Given as goal
 
 abbrev pub invariant-loop-rest : goal.invariant-loop-rest
 invariant-loop-rest g l = record {
-  addresses : HaveAddresses (map g.S.Stretch.run l.rest);
-  whole : AreRuns (map g.S.Stretch.run l.rest) ↔ AreRuns (map g.S.Stretch.run l.stretches);
+  addresses : HaveAddresses (map g.S.ValuedRange.run l.rest);
+  whole : AreRuns (map g.S.ValuedRange.run l.rest) ↔ AreRuns (map g.S.ValuedRange.run l.stretches);
 }
 
 abbrev pub decreases-loop-rest : goal.decreases-loop-rest

@@ -12,10 +12,10 @@ loop-i-preserved c =
     let all = take_rest rest (i + 1) in
     record {
       few = rw all (omega (arith, length-drop (i + 1) rest));
-      label = rw (all, c.label_after_trim-whole.ensures) (sym (turn c.loop-i.whole rest i c.args.x (sym c.in-Some.ensures.first))
+      label = rw (all, c.marks_after_trim-whole.ensures) (sym (turn c.loop-i.whole rest i c.args.x (sym c.in-Some.ensures.first))
           ∙ c.loop-i.invariant.label);
     }
 
 pub returns : goal.returns
-returns c = c.tag_for.ensures ∙ ap tag_for (c.label_after_items.ensures ∙ sym
+returns c = c.tag_for.ensures ∙ ap tag_for (c.marks_after_items.ensures ∙ sym
     (items_after_last_trim c.loop-i.whole c.loop-i.rest.now c.args.x (sym c.in_default.ensures.first)) ∙ c.loop-i.invariant.label)

@@ -94,7 +94,7 @@ row4 c row =
     (made_after_lines (with_nodes inputs c.args.map.now booted c.in_ok-nodes.nodes) c.assign.new.memblock
     c.run_script_lines.new.live fills [])
     _ c.in_ok-crash.crash
-    (rw (c.added_bytes-added.ensures.sum, c.reach.ensures) at c.in_ok-crash.ensures.ends)) c.in_ok-crash.ensures.goes_on
+    (rw (c.memory_bytes_of_map-added.ensures.sum, c.reach.ensures) at c.in_ok-crash.ensures.ends)) c.in_ok-crash.ensures.goes_on
 
 row5 : (c : In_ok-run_script_lines-2) → Behind (extra_view c.args.extra.now) (inputs_view c.args.inputs.now) c.args.map.now 4
     (with_crash (inputs_view c.args.inputs.now) c.args.map.now c.run_script_lines.new.answers.items c.in_ok-nodes.nodes c.in_ok-crash.crash)
@@ -169,7 +169,7 @@ returns-in_err-crash-clause-stopped c =
     (steps-stop cause_of_growth made_with_crash_area refusal_for (reserve_for_map extra.profile inputs c.args.map.now)
     (made_after_lines (with_nodes inputs c.args.map.now c.run_script_lines.new.answers.items c.in_ok-nodes.nodes) c.assign.new.memblock
     c.run_script_lines.new.live _ []) _ _ stop
-    (rw (c.added_bytes-added.ensures.sum, c.reach.ensures) at c.in_err-crash.ensures.ends) booted other))
+    (rw (c.memory_bytes_of_map-added.ensures.sum, c.reach.ensures) at c.in_err-crash.ensures.ends) booted other))
 
 pub returns-in_err-roots-clause-stopped : goal.returns-in_err-roots-clause-stopped
 returns-in_err-roots-clause-stopped c =
@@ -202,7 +202,7 @@ reserve_by-requires c =
       begun = ends-begun (Ok (nodes_view c.in_ok-nodes.nodes)) error_of_stage_cause c.run_script_lines.new.mb.journal.items _
           (assign_nodes inputs.domains inputs.options.numa_off) c.in_ok-run_script_lines.ensures.begun
           (rw c.as_ref.ensures.value at c.in_ok-nodes.ensures.ends);
-      in_reach = c.added_bytes-added.ensures.in_reach;
+      in_reach = c.memory_bytes_of_map-added.ensures.in_reach;
     }
 
 pub place_sections-requires-clause-noded : goal.place_sections-requires-clause-noded

@@ -1,7 +1,7 @@
--- `top_place_in` returns the greatest address below 2^64 at which the query fits, or the least.
+-- `outermost_fit` returns the greatest address below 2^64 at which the query fits, or the least.
 use Rattle.std.proofs.Common.{◌≡◌, ℕ, ◌<◌, ◌≤◌, Bool, true, false, Some}
-use Rattle.memblock_model.specs.Search.{outermost_below, top_place_in}
-use Rattle.memblock_model.proofs.SearchLaws.{last_below-is, first_below-is, top_place_in-fits, top_place_in-none}
+use Rattle.memblock_model.specs.Search.{outermost_below, outermost_fit}
+use Rattle.memblock_model.proofs.SearchLaws.{last_below-is, first_below-is, outermost_fit-fits, outermost_fit-none}
 use Rattle.memblock_model.proofs.laws.top_is_outermost.Goals as goal
 
 greatest : (up : Bool) (p : ℕ → Bool) (n a b : ℕ) → up ≡ false → outermost_below up p n ≡ Some a → b < n → p b ≡ true → b ≤ a
@@ -13,15 +13,15 @@ least true p n a b upward h lt passes = (first_below-is p n a h).first b lt pass
 least false p n a b upward h lt passes = cc
 
 pub returns-clause-fits : goal.returns-clause-fits
-returns-clause-fits c = λ mode memory reserved q a h. top_place_in-fits mode memory reserved q a h
+returns-clause-fits c = λ mode memory reserved q a h. outermost_fit-fits mode memory reserved q a h
 
 pub returns-clause-greatest : goal.returns-clause-greatest
-unfolding top_place_in
+unfolding outermost_fit
 returns-clause-greatest c = λ mode memory reserved q a b down h. greatest mode.up _ _ a b down h
 
 pub returns-clause-least : goal.returns-clause-least
-unfolding top_place_in
+unfolding outermost_fit
 returns-clause-least c = λ mode memory reserved q a b up h. least mode.up _ _ a b up h
 
 pub returns-clause-none : goal.returns-clause-none
-returns-clause-none c = λ mode memory reserved q b h. top_place_in-none mode memory reserved q h b
+returns-clause-none c = λ mode memory reserved q b h. outermost_fit-none mode memory reserved q h b

@@ -16,7 +16,7 @@ loop-from-init g c =
     let f : ℕ → Option LabelView = value_at (g.T.Rows.list c.args.table.now) in
     let r : RangeView = c.args.range.now in
     let base : c.range.inside.base ≡ r.base = ap (λ (e : RangeView). e.base) c.range.view_is in
-    let rest = c.seek-read.ensures.rest in
+    let rest = c.first_ending_above-read.ensures.rest in
     record {
       first = omega (arith, base);
       last = omega (arith, base);

@@ -3,7 +3,7 @@ use Rattle.std.proofs.lemmas.List.{drop_more, drop_all}
 use Rattle.address_runs.specs.Runs.{RunOf, run_end, value_at, IsRunsOf}
 use Rattle.address_runs.specs.Edits.{IsEmptyFrom}
 use Rattle.address_runs.specs.Sweep.{IsSweptTo}
-use Rattle.run_edits.specs.Records.{stretch}
+use Rattle.run_edits.specs.Records.{run_or_none}
 use Rattle.memblock_model.specs.Labels.{LabelView}
 use Rattle.memblock_model.specs.Items.{trim_frames}
 use Rattle.memblock_model.specs.Tables.{records_for}
@@ -36,7 +36,7 @@ loop-read-preserved g c =
     c.whole_frame_bounds-start.result.0 c.whole_frame_bounds-start.result.1 (take c.loop-read.write t) i.swept.1
     c.whole_frame_bounds-start.ensures.start c.whole_frame_bounds-start.ensures.until c.whole_frame_bounds-start.ensures.none in
     let with_value : LabelView → List (RunOf LabelView) =
-    λ v. take c.loop-read.write t ++ stretch c.whole_frame_bounds-start.result.0 c.whole_frame_bounds-start.result.1
+    λ v. take c.loop-read.write t ++ run_or_none c.whole_frame_bounds-start.result.0 c.whole_frame_bounds-start.result.1
     (Some v) in
     let written : take c.write_run.result.0 (g.T.Rows.list c.write_run.new.table) ≡ with_value r.value =
     c.write_run.ensures.written ∙ ap with_value c.value.ensures in

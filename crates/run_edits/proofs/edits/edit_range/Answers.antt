@@ -5,7 +5,7 @@ use Rattle.address_runs.specs.Runs.{value_at}
 use Rattle.address_runs.specs.Edits.{change_range}
 use Rattle.address_runs.specs.Sweep.{StartAtOrPast, FirstEndsAtOrPast, HasValueBetween, IsRestFrom, IsSweptTo, IsBuiltTo}
 use Rattle.address_runs.proofs.SweepLaws.{ends_sooner}
-use Rattle.run_edits.specs.Records.{stretch}
+use Rattle.run_edits.specs.Records.{run_or_none}
 use Rattle.run_edits.proofs.JoinLaws.{swept_join, swept_stretch}
 use Rattle.run_edits.proofs.AmendLaws.{amended_below, amended_inside, amended_behind, amended_stays, amended_stays_behind, room_here}
 use Rattle.run_edits.proofs.edits.edit_range.Goals as goal
@@ -190,7 +190,7 @@ returns-clause-list g c =
     let starts : StartAtOrPast next (drop c.skip_ended-2.result (g.T.Rows.list c.loop-from.table)) =
     c.skip_ended-2.ensures.starts f until left ends
     c.value_and_end-here-2.ensures.uncut in
-    let swept : IsSweptTo h next (take a.result.write (g.T.Rows.list a.new.table) ++ stretch a.result.start next a.result.value) =
+    let swept : IsSweptTo h next (take a.result.write (g.T.Rows.list a.new.table) ++ run_or_none a.result.start next a.result.value) =
     swept_stretch h a.result.start next a.result.value (take a.result.write (g.T.Rows.list a.new.table)) built.swept built.begun built.stays
     (λ same. last ∙ c.value_and_end-here-2.ensures.another f left (sym (amended_behind change r f next (omega arith)) ∙ same ∙ last)) in
     let close : c.write_run-write.result.0 + (c.write_run-write.result.1 - c.write_run-write.result.0)

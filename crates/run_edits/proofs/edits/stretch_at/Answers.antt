@@ -8,14 +8,14 @@ use Rattle.run_edits.proofs.edits.stretch_at.Goals.{in_default-via-in-Some+else-
 
 pub returns-in-Some : goal.returns-in-Some
 returns-in-Some g c = λ f like.
-    let base : c.result.inside.base ≡ (g.S.Stretch.run c.in-Some.record).base = grind (arith, common_steps) in
+    let base : c.result.inside.base ≡ (g.S.ValuedRange.run c.in-Some.record).base = grind (arith, common_steps) in
     let parts : take c.args.first (g.T.Rows.list c.args.table.now)
-    ++ g.S.Stretch.run c.in-Some.record ∷ drop (c.args.first + 1) (g.T.Rows.list c.args.table.now) ≡ g.T.Rows.list c.args.table.now =
+    ++ g.S.ValuedRange.run c.in-Some.record ∷ drop (c.args.first + 1) (g.T.Rows.list c.args.table.now) ≡ g.T.Rows.list c.args.table.now =
     ap (λ l. take c.args.first (g.T.Rows.list c.args.table.now) ++ l) (sym c.in-Some.ensures.record)
     ∙ take-append-drop c.args.first (g.T.Rows.list c.args.table.now) in
     rw (base, c.value.ensures) (begun_inside (g.T.Rows.list c.args.table.now) f c.args.at
     (take c.args.first (g.T.Rows.list c.args.table.now)) (drop (c.args.first + 1) (g.T.Rows.list c.args.table.now))
-    (g.S.Stretch.run c.in-Some.record) parts c.requires.runs (grind (arith, common_steps))
+    (g.S.ValuedRange.run c.in-Some.record) parts c.requires.runs (grind (arith, common_steps))
     (rw c.in-Some.ensures.record at c.requires.from) like)
 
 pub returns-in_default : goal.returns-in_default

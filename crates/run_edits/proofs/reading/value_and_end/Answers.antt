@@ -26,7 +26,7 @@ returns-then-from-range-clause-another g c = λ f rest same.
 
 pub returns-else-from-range-clause-another : goal.returns-else-from-range-clause-another
 returns-else-from-range-clause-another g c = λ f rest same.
-    let until : c.end.result ≡ run_end (g.S.Stretch.run c.in-Some.record) = grind (arith, common_steps) in
-    let other = ends_another f c.args.from (g.S.Stretch.run c.in-Some.record) _ (rw c.in-Some.ensures.record at rest)
+    let until : c.end.result ≡ run_end (g.S.ValuedRange.run c.in-Some.record) = grind (arith, common_steps) in
+    let other = ends_another f c.args.from (g.S.ValuedRange.run c.in-Some.record) _ (rw c.in-Some.ensures.record at rest)
     (grind (arith, common_steps)) in
     absurd (other (rw until at same))

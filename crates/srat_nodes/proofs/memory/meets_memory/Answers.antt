@@ -9,15 +9,16 @@ use Rattle.srat_nodes.proofs.memory.meets_memory.Goals as goal
 pub returns-then-first-len : goal.returns-then-first-len
 returns-then-first-len c =
     let rs = c.args.memory.now.items in
-    let rest = subst (λ (g : RangeView). IsRestFrom (value_at rs) g.base (drop c.seek-first.result rs)) c.range.view_is
-    (rw (map-id rs) at c.seek-first.ensures.rest) in
-    sym (nothing_left rs c.seek-first.result c.args.range.now rest (omega arith))
+    let rest = subst (λ (g : RangeView). IsRestFrom (value_at rs) g.base (drop c.first_ending_above-first.result rs)) c.range.view_is
+    (rw (map-id rs) at c.first_ending_above-first.ensures.rest) in
+    sym (nothing_left rs c.first_ending_above-first.result c.args.range.now rest (omega arith))
 
 pub returns : goal.returns
 returns c =
     let rs = c.args.memory.now.items in
-    let rest = subst (λ (g : RangeView). IsRestFrom (value_at rs) g.base (drop c.seek-first.result rs)) c.range.view_is
-    (rw (map-id rs) at c.seek-first.ensures.rest) in
+    let rest = subst (λ (g : RangeView). IsRestFrom (value_at rs) g.base (drop c.first_ending_above-first.result rs)) c.range.view_is
+    (rw (map-id rs) at c.first_ending_above-first.ensures.rest) in
     let tells = subst (λ (r : RunOf Bool). c.overlaps.result ≡ true ↔ Meet (range_of_run r) c.args.range.now) c.run.view_is
     c.overlaps.ensures in
-    first_tells rs c.seek-first.result c.args.range.now c.index.result.now rest (omega arith) c.index.ensures c.overlaps.result tells
+    first_tells rs c.first_ending_above-first.result c.args.range.now c.index.result.now rest
+    (omega arith) c.index.ensures c.overlaps.result tells

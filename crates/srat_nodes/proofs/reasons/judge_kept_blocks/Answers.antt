@@ -11,7 +11,7 @@ pub returns-in-Some : goal.returns-in-Some
 returns-in-Some c =
     c.unused_srat.ensures
     ∙ sym (found_overlap (is_in_any_range c.args.memory.now) c.args.domains.items c.args.kept.now c.in-Some.i c.in-Some.j
-    (sym c.first_clash.ensures ∙ c.in-Some.is))
+    (sym c.first_overlap.ensures ∙ c.in-Some.is))
 
 pub returns-then-uncovered-ge-UNCOVERED_FRAMES : goal.returns-then-uncovered-ge-UNCOVERED_FRAMES
 returns-then-uncovered-ge-UNCOVERED_FRAMES c =
@@ -20,9 +20,9 @@ returns-then-uncovered-ge-UNCOVERED_FRAMES c =
     let joined = c.in_ok-joined.joined.items in
     let rest = c.in_ok-rest.rest.items in
     let found : Found memory kept joined rest c.count_frames-uncovered.result = record {
-      apart = sym c.first_clash.ensures ∙ c.in_default.is;
+      apart = sym c.first_overlap.ensures ∙ c.in_default.is;
       kept_space = c.requires.space;
-      hulls = joined_kept kept c.in_ok-laid.laid.items c.deref.result.now joined (sym c.first_clash.ensures ∙ c.in_default.is)
+      hulls = joined_kept kept c.in_ok-laid.laid.items c.deref.result.now joined (sym c.first_overlap.ensures ∙ c.in_default.is)
           c.requires.some c.in_ok-laid.ensures c.deref.ensures.value c.in_ok-joined.ensures;
       left = rw (c.lowest_node.ensures, c.deref-2.ensures.value) at c.in_ok-rest.ensures.runs;
       left_space = c.in_ok-rest.ensures.space;
@@ -40,9 +40,9 @@ returns c =
     let joined = c.in_ok-joined.joined.items in
     let rest = c.in_ok-rest.rest.items in
     let found : Found memory kept joined rest c.count_frames-uncovered.result = record {
-      apart = sym c.first_clash.ensures ∙ c.in_default.is;
+      apart = sym c.first_overlap.ensures ∙ c.in_default.is;
       kept_space = c.requires.space;
-      hulls = joined_kept kept c.in_ok-laid.laid.items c.deref.result.now joined (sym c.first_clash.ensures ∙ c.in_default.is)
+      hulls = joined_kept kept c.in_ok-laid.laid.items c.deref.result.now joined (sym c.first_overlap.ensures ∙ c.in_default.is)
           c.requires.some c.in_ok-laid.ensures c.deref.ensures.value c.in_ok-joined.ensures;
       left = rw (c.lowest_node.ensures, c.deref-2.ensures.value) at c.in_ok-rest.ensures.runs;
       left_space = c.in_ok-rest.ensures.space;
@@ -55,4 +55,4 @@ returns c =
 pub uncovered_runs-requires-clause-joined : goal.uncovered_runs-requires-clause-joined
 uncovered_runs-requires-clause-joined c =
     rw c.deref-2.ensures.value (joined_kept c.args.kept.now c.in_ok-laid.laid.items c.deref.result.now c.in_ok-joined.joined.items
-    (sym c.first_clash.ensures ∙ c.in_default.is) c.requires.some c.in_ok-laid.ensures c.deref.ensures.value c.in_ok-joined.ensures).runs
+    (sym c.first_overlap.ensures ∙ c.in_default.is) c.requires.some c.in_ok-laid.ensures c.deref.ensures.value c.in_ok-joined.ensures).runs

@@ -7,7 +7,7 @@ use Rattle.free_areas.proofs.areas.Areas.split_block.Goals as goal
 
 pub returns : goal.returns
 returns c =
-    let e = c.in_ok-remove_and_expose_next.ensures in
+    let e = c.in_ok-remove_and_add_next.ensures in
     on_ok_weaker c.insert_buddies.result
     (λ buddies f g areas without block inner order next. split_areas f g c.args.order c.args.frame c.args.block.now c.args.behind _ _ _
     (subst (λ (bs : List Block). IndexesFreeBlocks f bs) (sym c.self.view_is) areas) without block inner order next e.sound e.kept e.behind

@@ -1,9 +1,9 @@
 -- The bytes are those of runs that don't overlap, below the limit.
 use Rattle.std.proofs.Common.{◌≡◌, ℕ, suc, ◌+◌, List, ◌∷◌, drop, get_or, ap, drop-cons, arith}
 use Rattle.address_runs.specs.Runs.{RunOf}
-use Rattle.boot_model.specs.Added.{added_by_run, added_bytes}
+use Rattle.boot_model.specs.Added.{added_by_run, memory_bytes_of_map}
 use Rattle.boot_stages.proofs.AddedLaws.{added-cons, added-within}
-use Rattle.boot_stages.proofs.added.added_bytes.Goals as goal
+use Rattle.boot_stages.proofs.added.memory_bytes_of_map.Goals as goal
 
 pub overflow_add-added : goal.overflow_add-added
 overflow_add-added c =
@@ -11,9 +11,9 @@ overflow_add-added c =
     let map : List (RunOf ℕ) = c.args.map.now in
     let i = c.loop-run.run-index in
     let run = c.run-item.result in
-    let kept : c.loop-run.added + added_bytes reach (drop i map) ≡ added_bytes reach map = c.loop-run.invariant in
-    let next : added_bytes reach (drop i map) ≡ added_bytes reach (get_or map i run ∷ drop (suc i) map) = ap
-    (λ (rs : List (RunOf ℕ)). added_bytes reach rs) (drop-cons map i run c.loop-run-test.true) in
+    let kept : c.loop-run.added + memory_bytes_of_map reach (drop i map) ≡ memory_bytes_of_map reach map = c.loop-run.invariant in
+    let next : memory_bytes_of_map reach (drop i map) ≡ memory_bytes_of_map reach (get_or map i run ∷ drop (suc i) map) = ap
+    (λ (rs : List (RunOf ℕ)). memory_bytes_of_map reach rs) (drop-cons map i run c.loop-run-test.true) in
     let sum = added-cons reach (get_or map i run) (drop (suc i) map) in
     omega (
       arith,

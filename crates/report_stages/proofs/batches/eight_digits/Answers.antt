@@ -1,7 +1,7 @@
 use Rattle.std.proofs.Common.{◌-◌, ◌∙◌, arith}
 use Rattle.std.proofs.lemmas.List.{length-set}
 use Rattle.report_stages.proofs.BatchLaws.{digit_step, digits_end}
-use Rattle.report_stages.proofs.batches.last_digits.Goals as goal
+use Rattle.report_stages.proofs.batches.eight_digits.Goals as goal
 
 pub loop-i-preserved : goal.loop-i-preserved
 loop-i-preserved c =

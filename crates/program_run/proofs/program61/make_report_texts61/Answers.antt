@@ -6,7 +6,7 @@ use Rattle.boot_model.specs.Boot.{whole_boot_with}
 use Rattle.debugfs_reports.specs.ReportList.{report_list_text}
 use Rattle.program_run.specs.Outcome.{linux_extra, read_boot_inputs61, reports_of_list61}
 use Rattle.program_run.proofs.RunLaws.{fetches_none}
-use Rattle.program_run.proofs.program61.make_texts61.Goals as goal
+use Rattle.program_run.proofs.program61.make_report_texts61.Goals as goal
 
 pub returns-in_err-inputs-clause-fetches : goal.returns-in_err-inputs-clause-fetches
 returns-in_err-inputs-clause-fetches g c =

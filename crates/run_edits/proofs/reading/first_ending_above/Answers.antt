@@ -2,7 +2,7 @@ use Rattle.std.proofs.Common.{◌-◌, take, drop, arith}
 use Rattle.std.proofs.lemmas.List.{take-append-drop}
 use Rattle.address_runs.specs.Runs.{value_at}
 use Rattle.run_edits.proofs.JoinLaws.{rest_before}
-use Rattle.run_edits.proofs.reading.seek.Goals as goal
+use Rattle.run_edits.proofs.reading.first_ending_above.Goals as goal
 
 pub returns-clause-rest : goal.returns-clause-rest
 returns-clause-rest g c =
