@@ -33,5 +33,5 @@ replaced_examples : (replace_in_range (bytes 2 2) 9 one_value 2 ≡ Some 9) × (
 replaced_examples = (refl, refl, refl)
 
 -- nothing is carried from address 4 on, but something is from address 3 on
-nothing_behind : IsEmptyFrom 4 one_value × (IsEmptyFrom 3 one_value → ⊥)
-nothing_behind = ((λ x le. grind (arith, nat_tests)), λ none. let same : Some 7 ≡ None = none 3 (omega arith) in cc same)
+nothing_after : IsEmptyFrom 4 one_value × (IsEmptyFrom 3 one_value → ⊥)
+nothing_after = ((λ x le. grind (arith, nat_tests)), λ none. let same : Some 7 ≡ None = none 3 (omega arith) in cc same)

@@ -68,13 +68,13 @@ equal_numbers_decide_equality =
 one_page : ℕ → Option ℕ
 one_page = value_at (run 0x1000 0x1000 1 ∷ [])
 
-none_behind_the_page : (x : ℕ) → 2 ^ 64 ≤ x → one_page x ≡ None
+none_after_the_page : (x : ℕ) → 2 ^ 64 ≤ x → one_page x ≡ None
 unfolding one_page run
-none_behind_the_page x far = grind (arith, nat_tests)
+none_after_the_page x far = grind (arith, nat_tests)
 
 runs_of_one_page : run 0x1000 0x1000 1 ∷ [] ≡ runs_of (λ a b. a == b) one_page
 unfolding one_page run
-runs_of_one_page = runs_equal_runs_of (λ a b. a == b) equal_numbers_decide_equality one_page (run 0x1000 0x1000 1 ∷ []) none_behind_the_page
+runs_of_one_page = runs_equal_runs_of (λ a b. a == b) equal_numbers_decide_equality one_page (run 0x1000 0x1000 1 ∷ []) none_after_the_page
     (record { runs = (omega arith, tt, tt); each = λ x. refl })
 
 -- an example of a join: the sum of both values
@@ -101,7 +101,7 @@ goes_on_with_the_value ends = ends.1 refl refl
 
 ends_right_there : (¬ FirstEndsPast 6 (run 4 2 1 ∷ [])) × (¬ FirstEndsAtOrPast 7 (run 4 2 1 ∷ []))
 unfolding run
-ends_right_there = ((λ behind. let more : 6 < 6 = behind in absurd (omega arith)), λ from. let more : 7 ≤ 6 = from in absurd (omega arith))
+ends_right_there = ((λ after. let more : 6 < 6 = after in absurd (omega arith)), λ from. let more : 7 ≤ 6 = from in absurd (omega arith))
 
 begins_lower : ¬ StartAtOrPast 5 (run 4 2 1 ∷ [])
 unfolding run

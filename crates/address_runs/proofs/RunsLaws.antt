@@ -13,8 +13,8 @@ inside r x above below = grind (arith, nat_tests)
 pub below : {X : Type 0} (r : RunOf X) (x : ℕ) → x < r.base → lies_in r x ≡ false
 below r x h = grind (arith, nat_tests)
 
-pub behind : {X : Type 0} (r : RunOf X) (x : ℕ) → r.base + r.size ≤ x → lies_in r x ≡ false
-behind r x h = grind (arith, nat_tests)
+pub past_end : {X : Type 0} (r : RunOf X) (x : ℕ) → r.base + r.size ≤ x → lies_in r x ≡ false
+past_end r x h = grind (arith, nat_tests)
 
 -- no address below the first run has a value
 pub none_below : {X : Type 0} (at x : ℕ) (rs : List (RunOf X)) → AreRuns rs → StartAtOrPast at rs → x < at → value_at rs x ≡ None
@@ -59,8 +59,8 @@ value_first r rs some = rw (inside r r.base (omega arith) (omega arith)) refl
 value_inside : {X : Type 0} (r : RunOf X) (rs : List (RunOf X)) (x : ℕ) → r.base ≤ x → x < run_end r → value_at (r ∷ rs) x ≡ Some r.value
 value_inside r rs x above below_end = rw (inside r x above below_end) refl
 
-value_behind : {X : Type 0} (r : RunOf X) (rs : List (RunOf X)) (x : ℕ) → run_end r ≤ x → value_at (r ∷ rs) x ≡ value_at rs x
-value_behind r rs x h = rw (behind r x h) refl
+value_after : {X : Type 0} (r : RunOf X) (rs : List (RunOf X)) (x : ℕ) → run_end r ≤ x → value_at (r ∷ rs) x ≡ value_at rs x
+value_after r rs x h = rw (past_end r x h) refl
 
 -- if two lists agree at every address, neither begins below the other
 no_earlier : {X : Type 0} (r s : RunOf X) (rs ss : List (RunOf X)) → AreRuns (r ∷ rs) → AreRuns (s ∷ ss)
@@ -79,7 +79,7 @@ no_shorter : {X : Type 0} (r s : RunOf X) (rs ss : List (RunOf X)) → AreRuns (
 no_shorter r s rs ss rr ra same bases values =
     elim (cases_lt (run_end r) (run_end s)) as (λ _. run_end s ≤ run_end r) [
       | inl lt ↦
-          let last : value_at (r ∷ rs) (run_end r) ≡ value_at rs (run_end r) = value_behind r rs (run_end r) (omega arith) in
+          let last : value_at (r ∷ rs) (run_end r) ≡ value_at rs (run_end r) = value_after r rs (run_end r) (omega arith) in
           let still : value_at (s ∷ ss) (run_end r) ≡ Some s.value = value_inside s ss (run_end r) (omega arith) lt in
           absurd (another_value_at_run_end r rs rr (sym last ∙ same (run_end r) ∙ still ∙ ap (λ v. Some v) (sym values)))
       | inr ge ↦ ge
@@ -95,7 +95,7 @@ same_rest : {X : Type 0} (r : RunOf X) (rs ss : List (RunOf X)) → AreRuns (r �
 same_rest r rs ss rr ra same x =
     elim (cases_lt x (run_end r)) as (λ _. value_at rs x ≡ value_at ss x) [
       | inl lt ↦ none_below (run_end r) x rs rr.2 (rest_from r rs rr) lt ∙ sym (none_below (run_end r) x ss ra.2 (rest_from r ss ra) lt)
-      | inr ge ↦ sym (value_behind r rs x ge) ∙ same x ∙ value_behind r ss x ge
+      | inr ge ↦ sym (value_after r rs x ge) ∙ same x ∙ value_after r ss x ge
     ]
 
 same_lists : {X : Type 0} (rs ss : List (RunOf X)) → AreRuns rs → AreRuns ss → ((x : ℕ) → value_at rs x ≡ value_at ss x) → rs ≡ ss
@@ -210,7 +210,7 @@ IsRunsBetween-prepend_address {X} same tells f x n rs known = record {
         | inl lt ↦ let not_here : (y == x) ≡ false = grind (arith, nat_tests) in rw not_here (known.within y (omega arith) (omega arith))
         | inr ge ↦ let here : y ≡ x = omega arith in let is : (y == x) ≡ true = grind (arith, nat_tests) in rw is (ap f (sym here))
       ]);
-  past = λ y behind_end.
+  past = λ y after_end.
       let not_here : (y == x) ≡ false = grind (arith, nat_tests) in
       value_at-prepend_address same tells x (f x) rs y known.runs known.start ∙ rw not_here (known.past y (omega arith));
 }

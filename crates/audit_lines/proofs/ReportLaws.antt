@@ -55,10 +55,10 @@ module _ {L : Type 0} (form : ℕ → List ℕ → Option L) (extent : L → Ran
   line_open front index at split (b ∷ bs) said splits some so = sym (rw splits at so)
 
   -- a line that was accepted begins at or above the end of the line before it
-  at_or_behind : (index at : ℕ) (text : List ℕ) (read : Option L) (line : L)
+  at_or_after : (index at : ℕ) (text : List ℕ) (read : Option L) (line : L)
       → (line_or_fault form extent index read >>= line_if_in_order form extent index at) ≡ Ok line → at ≤ (extent line).base
-  at_or_behind index at text None line is = cc
-  at_or_behind index at text (Some other) line is =
+  at_or_after index at text None line is = cc
+  at_or_after index at text (Some other) line is =
       elim (cases_Bool (nat_lt (extent other).base at)) as (λ _. at ≤ (extent line).base) [
         | inl below ↦ let wrong : ◌≡◌ {A = Result L LineFault} _ (Ok line) = rw below at is in cc
         | inr above ↦
@@ -89,13 +89,13 @@ module _ {L : Type 0} (form : ℕ → List ℕ → Option L) (extent : L → Ran
       >>= λ others. Ok (line ∷ others)) ≡ Ok lines → AscendFrom at lines
   both_ascend index at text texts left (Err fault) read step lines is = cc
   both_ascend index at text texts left (Ok line) read step lines is =
-      behind (report_from form extent (index + 1) (end_of (extent line)) texts left) refl is
+      after (report_from form extent (index + 1) (end_of (extent line)) texts left) refl is
     where
-      behind : (rest : Result (List L) LineFault) → report_from form extent (index + 1) (end_of (extent line)) texts left ≡ rest
+      after : (rest : Result (List L) LineFault) → report_from form extent (index + 1) (end_of (extent line)) texts left ≡ rest
           → (rest >>= λ others. Ok (line ∷ others)) ≡ Ok lines → AscendFrom at lines
-      behind (Err fault) rest_is is = cc
-      behind (Ok others) rest_is is =
-          ascend_more at line others lines (at_or_behind index at text (form index text) line read) (step line others rest_is) is
+      after (Err fault) rest_is is = cc
+      after (Ok others) rest_is is =
+          ascend_more at line others lines (at_or_after index at text (form index text) line read) (step line others rest_is) is
 
   pub report_ascends : (index at : ℕ) (texts : List (List ℕ)) (left : List ℕ) (lines : List L)
       → report_from form extent index at texts left ≡ Ok lines → AscendFrom at lines

@@ -10,7 +10,7 @@ use Rattle.audit_lines.specs.Blocks.{BlockLineView, IsBlockLine, bytes_of_block}
 use Rattle.audit_lines.specs.Fields.{address_in, rest_after, number_in}
 use Rattle.audit_lines.specs.Forms.{block_in, is_exactly, is_numbered, is_owner, map_type_name, map_line_in, owner_line_in, zone_in}
 use Rattle.audit_lines.specs.declared.lines.MapLine.{MapLine}
-use Rattle.audit_lines.proofs.FieldLaws.{behind_front}
+use Rattle.audit_lines.proofs.FieldLaws.{after_front}
 use Rattle.audit_roundtrip.proofs.NumberLaws.{address_line, address_read, number_line, number_read, range_line, range_read, index_line}
 use Rattle.report_memory.specs.Lines.{index_text, range_text}
 use Rattle.audit_roundtrip.proofs.SplitLaws.{IsOneLine, one_line-append}
@@ -44,13 +44,13 @@ block_by b index node fits =
     let small : nat_le b.order 10 ≡ true = grind (arith, nat_tests, fits.0) in
     let near : nat_le (end_of (bytes_of_block b)) (2 ^ 52) ≡ true = grind (arith, nat_tests, fits.1) in
     rw (
-      behind_front (codes "node ") (decimal b.node ++ zone_on),
+      after_front (codes "node ") (decimal b.node ++ zone_on),
       number_read (2 ^ 32 - 1) b.node zone_on (omega (arith, node)) (omega arith) refl,
-      behind_front (codes " zone ") (zone_name b.zone ++ order_on),
+      after_front (codes " zone ") (zone_name b.zone ++ order_on),
       zone_read b.zone (codes "order " ++ (decimal b.order ++ last)),
-      behind_front (codes " order ") (decimal b.order ++ last),
+      after_front (codes " order ") (decimal b.order ++ last),
       number_read 10 b.order last fits.0 (omega arith) refl,
-      behind_front (codes " ") (hex_text b.at),
+      after_front (codes " ") (hex_text b.at),
       at,
       small,
       near,
@@ -97,14 +97,14 @@ unfolding map_line_in
 map_by l index some near kind small =
     let name : List ℕ = codes " " ++ map_type_name l.kind in
     let left : rest_after (map_type_name l.kind) (map_type_name l.kind) ≡ Some [] =
-    ap (rest_after (map_type_name l.kind)) (sym (append-nil (map_type_name l.kind))) ∙ behind_front (map_type_name l.kind) [] in
+    ap (rest_after (map_type_name l.kind)) (sym (append-nil (map_type_name l.kind))) ∙ after_front (map_type_name l.kind) [] in
     let above : nat_lt 0 l.kind ≡ true = grind (arith, nat_tests, kind) in
     rw (
       range_read l.range (codes " " ++ (decimal l.kind ++ name)) some near,
-      behind_front (codes " ") (decimal l.kind ++ name),
+      after_front (codes " ") (decimal l.kind ++ name),
       number_read (2 ^ 32 - 1) l.kind name (omega (arith, small)) (omega arith) refl,
       above,
-      behind_front (codes " ") (map_type_name l.kind),
+      after_front (codes " ") (map_type_name l.kind),
       left,
     ) refl
 
@@ -161,10 +161,10 @@ owner_by : (r : RangeView) (name : List ℕ) (index : ℕ) → 0 < r.size → en
 unfolding owner_line_in
 owner_by r name index some near known =
     rw (
-      behind_front (padded_decimal 4 index) (codes ": " ++ (range_text r ++ (codes " " ++ name))),
-      behind_front (codes ": ") (range_text r ++ (codes " " ++ name)),
+      after_front (padded_decimal 4 index) (codes ": " ++ (range_text r ++ (codes " " ++ name))),
+      after_front (codes ": ") (range_text r ++ (codes " " ++ name)),
       range_read r (codes " " ++ name) some near,
-      behind_front (codes " ") name,
+      after_front (codes " ") name,
       known,
     ) refl
 
@@ -191,7 +191,7 @@ unfolding is_numbered
 owner_with_number_is_read front n small =
     let read : number_in (2 ^ 32 - 1) (decimal n) ≡ Some (n, []) =
     ap (number_in (2 ^ 32 - 1)) (sym (append-nil (decimal n))) ∙ number_read (2 ^ 32 - 1) n [] (omega (arith, small)) (omega arith) tt in
-    rw (behind_front front (decimal n), read) refl
+    rw (after_front front (decimal n), read) refl
 
 pub numbered_line : (front : List ℕ) (n : ℕ) → n < 2 ^ 32 → is_one_line front ≡ true → IsOneLine (front ++ decimal n)
 numbered_line front n small one = one_line-append front (decimal n) (one_line-by front one) (number_line n (omega (arith, small)))

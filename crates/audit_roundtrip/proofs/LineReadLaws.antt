@@ -9,7 +9,7 @@ use Rattle.audit_lines.specs.Blocks.{BlockLineView, bytes_of_block}
 use Rattle.audit_lines.specs.Fields.{address_in, rest_after, is_at_end, number_in, range_at_start}
 use Rattle.audit_lines.specs.Forms.{block_in, block_if_bounded, map_type_name, map_line_in, zone_in}
 use Rattle.audit_lines.specs.declared.lines.MapLine.{MapLine}
-use Rattle.audit_lines.proofs.FieldLaws.{behind_is}
+use Rattle.audit_lines.proofs.FieldLaws.{after_is}
 use Rattle.report_memory.specs.Lines.{range_text}
 use Rattle.audit_roundtrip.proofs.FormLaws.{apart_eight, apart_five, block_words, map_words}
 use Rattle.audit_roundtrip.proofs.ReadLaws.{address_is, chain, left_of_found, number_is, range_is, value_of_found}
@@ -42,9 +42,9 @@ map_is index text l found =
     let six = chain (rest_after (map_type_name three.0.0) five.0) _ l five.1.1 in
     let seven = chain (is_at_end six.0) _ l six.1.1 in
     map_parts l one.0.0 three.0.0 text one.0.1 two.0 three.0.1 five.0 six.0 (line_is one.0.0 three.0.0 seven.1.1)
-    (range_is one.0.0 text one.0.1 one.1.0) (behind_is (codes " ") one.0.1 two.0 two.1.0)
-    (number_is (2 ^ 32 - 1) three.0.0 two.0 three.0.1 three.1.0) (behind_is (codes " ") three.0.1 five.0 five.1.0)
-    (behind_is (map_type_name three.0.0) five.0 six.0 six.1.0) (none_left six.0 seven.0 seven.1.0)
+    (range_is one.0.0 text one.0.1 one.1.0) (after_is (codes " ") one.0.1 two.0 two.1.0)
+    (number_is (2 ^ 32 - 1) three.0.0 two.0 three.0.1 three.1.0) (after_is (codes " ") three.0.1 five.0 five.1.0)
+    (after_is (map_type_name three.0.0) five.0 six.0 six.1.0) (none_left six.0 seven.0 seven.1.0)
   where
     line_is : (range : RangeView) (kind : ℕ) → ◌≡◌ {A = Option MapLine} (Some (record { range = range; kind = kind })) (Some l)
         → ◌≡◌ {A = MapLine} (record { range = range; kind = kind }) l
@@ -65,12 +65,12 @@ zone_is : (zone : Zone) (text rest : List ℕ) → zone_in text ≡ Some (zone, 
 unfolding zone_in
 zone_is zone text rest found =
     elim (has_value (rest_after (codes "DMA32") text)) as (λ _. text ≡ zone_name zone ++ rest) [
-      | inr one ↦ zone_at zones.Dma32 zone text one.0 rest (behind_is (codes "DMA32") text one.0 one.1) (rw (one.1) at found)
+      | inr one ↦ zone_at zones.Dma32 zone text one.0 rest (after_is (codes "DMA32") text one.0 one.1) (rw (one.1) at found)
       | inl none ↦ elim (has_value (rest_after (codes "DMA") text)) as (λ _. text ≡ zone_name zone ++ rest) [
-        | inr two ↦ zone_at zones.Dma zone text two.0 rest (behind_is (codes "DMA") text two.0 two.1) (rw (none, two.1) at found)
+        | inr two ↦ zone_at zones.Dma zone text two.0 rest (after_is (codes "DMA") text two.0 two.1) (rw (none, two.1) at found)
         | inl neither ↦ elim (has_value (rest_after (codes "Normal") text)) as (λ _. text ≡ zone_name zone ++ rest) [
           | inr three ↦
-              zone_at zones.Normal zone text three.0 rest (behind_is (codes "Normal") text three.0 three.1)
+              zone_at zones.Normal zone text three.0 rest (after_is (codes "Normal") text three.0 three.1)
               (rw (none, neither, three.1) at found)
           | inl all ↦ let wrong : ◌≡◌ {A = Option (Zone × List ℕ)} None (Some (zone, rest)) = rw (none, neither, all) at found in cc
         ]
@@ -109,9 +109,9 @@ block_is index text b found =
     let eight = chain (address_in seven.0) _ b seven.1.1 in
     let nine = chain (is_at_end eight.0.1) _ b eight.1.1 in
     let read : BlockLineView = record { node = two.0.0; zone = four.0.0; order = six.0.0; at = eight.0.0 } in
-    block_parts read text one.0 two.0.1 three.0 four.0.1 five.0 six.0.1 seven.0 eight.0.1 (behind_is (codes "node ") text one.0 one.1.0)
-    (number_is (2 ^ 32 - 1) two.0.0 one.0 two.0.1 two.1.0) (behind_is (codes " zone ") two.0.1 three.0 three.1.0)
-    (zone_is four.0.0 three.0 four.0.1 four.1.0) (behind_is (codes " order ") four.0.1 five.0 five.1.0)
-    (number_is 10 six.0.0 five.0 six.0.1 six.1.0) (behind_is (codes " ") six.0.1 seven.0 seven.1.0)
+    block_parts read text one.0 two.0.1 three.0 four.0.1 five.0 six.0.1 seven.0 eight.0.1 (after_is (codes "node ") text one.0 one.1.0)
+    (number_is (2 ^ 32 - 1) two.0.0 one.0 two.0.1 two.1.0) (after_is (codes " zone ") two.0.1 three.0 three.1.0)
+    (zone_is four.0.0 three.0 four.0.1 four.1.0) (after_is (codes " order ") four.0.1 five.0 five.1.0)
+    (number_is 10 six.0.0 five.0 six.0.1 six.1.0) (after_is (codes " ") six.0.1 seven.0 seven.1.0)
     (address_is eight.0.0 seven.0 eight.0.1 eight.1.0) (none_left eight.0.1 nine.0 nine.1.0)
     ∙ ap block_words (bounded_is read b nine.1.1)

@@ -16,7 +16,7 @@ use Rattle.bm_base.specs.Text.{hex_text, hex_digits, padded_decimal}
 use Rattle.bm_base.proofs.SizeLaws.{front_digits-all, is_hexadecimal-other, number_of-mark}
 use Rattle.bm_base.proofs.TextLaws.{prepend_hex_digits, hex_sixteen}
 use Rattle.audit_lines.specs.Fields.{address_in, number_at_most, rest_after, is_address, is_lower_hex, number_in, range_at_start}
-use Rattle.audit_lines.proofs.FieldLaws.{behind_front}
+use Rattle.audit_lines.proofs.FieldLaws.{after_front}
 use Rattle.report_memory.specs.Lines.{range_text}
 use Rattle.audit_roundtrip.proofs.SplitLaws.{IsOneLine, one_line-append}
 use Rattle.report_stages.proofs.BatchLaws.{hex_length}
@@ -117,7 +117,7 @@ address_read n rest small =
     let long : length (hex_text n) ≡ 18 = omega arith in
     let front : take 18 (hex_text n ++ rest) ≡ hex_text n = take_front (hex_text n) rest 18 long in
     let left : drop 18 (hex_text n ++ rest) ≡ rest = drop_front (hex_text n) rest 18 long in
-    let found : rest_after (codes "0x") (hex_text n) ≡ Some (address_digits n) = behind_front (codes "0x") (address_digits n) in
+    let found : rest_after (codes "0x") (hex_text n) ≡ Some (address_digits n) = after_front (codes "0x") (address_digits n) in
     let is : is_address (hex_text n) ≡ true = rw (found, digits, lower_glyphs (address_digits n) (digits_glyphs n small)) refl in
     let read : number_of (hex_text n) ≡ Ok (n, 2 + length (address_digits n)) =
     hex_read (address_digits n) n (digits_glyphs n small) (omega arith) (digits_number n small) small in
@@ -190,7 +190,7 @@ range_by first last rest up below =
     let begins : address_in (hex_text first ++ (codes ".." ++ (hex_text last ++ rest)))
     ≡ Some (first, codes ".." ++ (hex_text last ++ rest)) = address_read first _ (omega arith) in
     let dots : rest_after (codes "..") (codes ".." ++ (hex_text last ++ rest)) ≡ Some (hex_text last ++ rest) =
-    behind_front (codes "..") (hex_text last ++ rest) in
+    after_front (codes "..") (hex_text last ++ rest) in
     let ends : address_in (hex_text last ++ rest) ≡ Some (last, rest) = address_read last rest (omega arith) in
     let rising : nat_le first last ≡ true = grind (arith, nat_tests, up) in
     let short : nat_lt last (2 ^ 64 - 1) ≡ true = grind (arith, nat_tests, below) in

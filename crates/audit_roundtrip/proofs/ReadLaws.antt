@@ -19,7 +19,7 @@ use Rattle.bm_base.specs.Text.{hex_text}
 use Rattle.bm_base.proofs.SizeLaws.{is_hexadecimal-other}
 use Rattle.bm_base.proofs.TextLaws.{prepend_hex_digits, hex_sixteen}
 use Rattle.audit_lines.specs.Fields.{address_in, are_sixteen_digits, number_at_most, rest_after, is_lower_hex, number_in, range_at_start, range_from_bytes, read_value_and_rest}
-use Rattle.audit_lines.proofs.FieldLaws.{behind_is}
+use Rattle.audit_lines.proofs.FieldLaws.{after_is}
 use Rattle.report_memory.specs.Lines.{range_text}
 use Rattle.audit_roundtrip.proofs.NumberLaws.{AreGlyphs, hex_number}
 
@@ -196,7 +196,7 @@ address_is n text rest found = by_front (rest_after (codes "0x") (take 18 text))
         → text ≡ hex_text n ++ rest
     by_digits ds is false test found = cc
     by_digits ds is true test found =
-        let front : take 18 text ≡ codes "0x" ++ ds = behind_is (codes "0x") (take 18 text) ds is in
+        let front : take 18 text ≡ codes "0x" ++ ds = after_is (codes "0x") (take 18 text) ds is in
         let parts = and_parts (length ds == 16) (list_all is_lower_hex ds) test in
         let long : length ds ≡ 16 = (Decides-eqb (length ds) 16).0 parts.0 in
         let read : number_of (take 18 text) ≡ fit_in_u64 (digits_value 16 ds) (2 + length ds) =
@@ -251,5 +251,5 @@ range_is r text rest found =
     let left : three.0.1 ≡ rest = left_of_found four.0 r three.0.1 rest four.1.1 in
     let ends = range_found one.0.0 three.0.0 r (four.1.0 ∙ ap (λ (e : RangeView). Some e) value) in
     range_parts r one.0.0 three.0.0 text one.0.1 two.0 rest ends.0 ends.1 (address_is one.0.0 text one.0.1 one.1.0)
-    (behind_is (codes "..") one.0.1 two.0 two.1.0)
+    (after_is (codes "..") one.0.1 two.0 two.1.0)
     (address_is three.0.0 two.0 three.0.1 three.1.0 ∙ ap (λ (xs : List ℕ). hex_text three.0.0 ++ xs) left)

@@ -63,9 +63,9 @@ module _ {L X : Type 0} (form : ℕ → List ℕ → Option L) (extent : L → R
       by_rest : (said : Result (List L) LineFault) → rest l ≡ said → (said >>= λ others. Ok (l ∷ others)) ≡ Ok ls
           → AreTheirs (text ∷ texts) left ls
       by_rest (Err fault) reads is = cc
-      by_rest (Ok behind) reads is =
-          let same : l ∷ behind ≡ ls = cc in
-          let theirs = others l behind reads in
+      by_rest (Ok after) reads is =
+          let same : l ∷ after ≡ ls = cc in
+          let theirs = others l after reads in
           rw (← same) (rw (one l refl, theirs.0) refl, theirs.1)
 
   lines_are : (index at : ℕ) (texts : List (List ℕ)) (left : List ℕ) (ls : List L) → report_from form extent index at texts left ≡ Ok ls

@@ -6,7 +6,7 @@ use Rattle.std.proofs.lemmas.List.{drop_more}
 use Rattle.std.proofs.lemmas.List.Elements.{All-cons, All-head, All-nil, All-tail}
 use Rattle.address_runs.specs.Edits.{IsEmptyFrom}
 use Rattle.address_runs.specs.Runs.{AreRuns, IsRunsOf, RunOf, run_end, value_at}
-use Rattle.address_runs.proofs.RunsLaws.{behind, inside, none_below, rest_from}
+use Rattle.address_runs.proofs.RunsLaws.{past_end, inside, none_below, rest_from}
 use Rattle.audit_roundtrip.specs.PrintedLines.{IsPrintableOwnerRun, IsPrintableRun}
 use Rattle.boot_model.specs.Boot.{InputsView, BootedView, claims, whole_boot, no_extra}
 use Rattle.boot_model.proofs.BootLaws.{goes_on, map_between}
@@ -29,7 +29,7 @@ nothing_past : {X : Type 0} (rs : List (RunOf X)) → All RunEndsInSpace rs → 
 nothing_past [] near x far = refl
 nothing_past (r ∷ rs) near x far =
     let end : r.base + r.size < 2 ^ 64 = All-head RunEndsInSpace r rs near in
-    rw (behind r x (omega (arith, end, far))) (nothing_past rs (All-tail RunEndsInSpace r rs near) x far)
+    rw (past_end r x (omega (arith, end, far))) (nothing_past rs (All-tail RunEndsInSpace r rs near) x far)
 
 -- runs of the map are printable if they end below 2^64 and have types above 0 of 32 bits
 runs_told : (rs : List (RunOf ℕ)) → AreRuns rs → ((x k : ℕ) → value_at rs x ≡ Some k → (0 < k) × (k < 2 ^ 32)) → All RunEndsInSpace rs
@@ -45,7 +45,7 @@ runs_told (r ∷ rs) runs types near =
     rest_gives x k found =
         elim (cases_lt x (run_end r)) as (λ _. value_at (r ∷ rs) x ≡ Some k) [
           | inl low ↦ absurd (cc (sym found ∙ none_below (run_end r) x rs runs.2 (rest_from r rs runs) low))
-          | inr past ↦ rw (behind r x past) found
+          | inr past ↦ rw (past_end r x past) found
         ]
 
 owners_told : (rs : List (RunOf Owner)) → AreRuns rs → All IsBoundedOwnerRun rs → All IsPrintableOwnerRun rs

@@ -19,8 +19,8 @@ module _ {A B C D E : Type 0} (memory : E) (view : A → B) (shown : C → D) wh
   pub one_step : (first : Result A E) (rest : A → Result C E) (said : Result B E) (step : B → Result D E)
       → Answers memory view first said → ((a : A) → first ≡ Ok a → Answers memory shown (rest a) (step (view a)))
       → Answers memory shown (first >>= rest) (said >>= step)
-  one_step (Ok a) rest said step answers behind = goes_on a said step (rest a) answers (behind a refl)
-  one_step (Err error) rest said step answers behind = stops error said step answers
+  one_step (Ok a) rest said step answers after = goes_on a said step (rest a) answers (after a refl)
+  one_step (Err error) rest said step answers after = stops error said step answers
 
 module _ {A B E F : Type 0} (convert : E → F) (memory : E) (view : A → B) where
   -- converting the error of a call (`map_err`, or `?` by `From`) gives the definition's error,

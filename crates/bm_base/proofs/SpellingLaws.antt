@@ -212,7 +212,7 @@ suffix_or_none b =
 
 size-spelled_front : (text : List ℕ) (radix value end : ℕ) → SpelledFront text radix value end → (rest : List ℕ) → drop end text ≡ rest
     → (n taken : ℕ) → with_suffix value end (suffix_of rest) ≡ Ok (n, taken) → IsSpelledTo text taken (λ front. SpellsSize front n)
-size-spelled_front text radix value end spelled rest behind n taken is = by_rest rest behind is
+size-spelled_front text radix value end spelled rest after n taken is = by_rest rest after is
   where
     alone : fit_in_u64 (value * 1) (end + 0) ≡ Ok (n, taken) → IsSpelledTo text taken (λ front. SpellsSize front n)
     alone is =
@@ -223,29 +223,29 @@ size-spelled_front text radix value end spelled rest behind n taken is = by_rest
 
     with_letter : (b : ℕ) (bs : List ℕ) → drop end text ≡ b ∷ bs → (factor : ℕ) → suffix_at b ≡ (factor, 1)
         → fit_in_u64 (value * factor) (end + 1) ≡ Ok (n, taken) → IsSpelledTo text taken (λ front. SpellsSize front n)
-    with_letter b bs behind factor suffix is =
+    with_letter b bs after factor suffix is =
         let read = fit_in_u64-ok (value * factor) (end + 1) n taken is in
-        let next : drop (end + 1) text ≡ bs = sym (drop-drop 1 end text) ∙ ap (drop 1) behind in
+        let next : drop (end + 1) text ≡ bs = sym (drop-drop 1 end text) ∙ ap (drop 1) after in
         let whole : text ≡ (spelled.front ++ (b ∷ [])) ++ drop (end + 1) text =
-        rw (next, append_assoc) (spelled.whole ∙ ap (λ (rest : List ℕ). spelled.front ++ rest) behind) in
+        rw (next, append_assoc) (spelled.whole ∙ ap (λ (rest : List ℕ). spelled.front ++ rest) after) in
         subst (λ k. IsSpelledTo text k (λ front. SpellsSize front n)) read.1
         (subst (λ v. IsSpelledTo text (end + 1) (λ front. SpellsSize front v)) read.0 (
           spelled.front ++ (b ∷ []),
-          number_with_suffix radix value factor b spelled.front spelled.number suffix (spelled.stops b bs behind) read.2,
+          number_with_suffix radix value factor b spelled.front spelled.number suffix (spelled.stops b bs after) read.2,
           whole,
           length_push spelled.front b ∙ ap (λ (k : ℕ). k + 1) spelled.taken,
         ))
 
     by_rest : (rest : List ℕ) → drop end text ≡ rest → with_suffix value end (suffix_of rest) ≡ Ok (n, taken)
         → IsSpelledTo text taken (λ front. SpellsSize front n)
-    by_rest [] behind is = alone is
-    by_rest (b ∷ bs) behind is = by_suffix (suffix_or_none b) is
+    by_rest [] after is = alone is
+    by_rest (b ∷ bs) after is = by_suffix (suffix_or_none b) is
       where
         by_suffix : ((suffix_at b).1 ≡ 1) ⊎ (suffix_at b ≡ (1, 0)) → with_suffix value end (suffix_at b) ≡ Ok (n, taken)
             → IsSpelledTo text taken (λ front. SpellsSize front n)
         by_suffix (inl one) is =
             let suffix : suffix_at b ≡ ((suffix_at b).0, 1) = ap (λ (k : ℕ). ((suffix_at b).0, k)) one in
-            with_letter b bs behind (suffix_at b).0 suffix (rw one at is)
+            with_letter b bs after (suffix_at b).0 suffix (rw one at is)
         by_suffix (inr none) is = alone (rw none at is)
 
 -- if a number is read at the start of a text, that start spells it

@@ -67,9 +67,9 @@ unfolding prepend_hex_digits
 hex_step text i left below long =
     let place : 18 - (i + 1) ≡ 17 - i = omega arith in
     let count : 16 - i ≡ suc (16 - (i + 1)) = omega arith in
-    let behind : 17 - i + 1 ≡ 18 - i = omega arith in
+    let after : 17 - i + 1 ≡ 18 - i = omega arith in
     let inside : 17 - i < length text = omega arith in
-    rw (place, count, drop-set text (17 - i) (digit_glyph false (left % 16)) inside, behind) refl
+    rw (place, count, drop-set text (17 - i) (digit_glyph false (left % 16)) inside, after) refl
 
 -- after 16 steps the text is `0x` and all digits
 pub hex_end : (text : List ℕ) (i left n : ℕ) → i ≡ 16 → n < 2 ^ 64 → take 2 text ≡ codes "0x"

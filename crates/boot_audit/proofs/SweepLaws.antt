@@ -100,8 +100,8 @@ module _ (st : ℕ → ByteState) (lost not_free : ℕ → Bool) (tells : Tells 
           elim (cases_lt (4096 * f) at) as (λ _. lost f ≡ false) [
             | inl inside ↦
                 tells.lost_false f at (omega arith) reaches (λ is. other (sym (piece at (omega arith) forward) ∙ is))
-            | inr behind ↦
-                tells.lost_false f (4096 * f) (omega arith) (omega arith) (λ is. other (sym (piece (4096 * f) behind below) ∙ is))
+            | inr after ↦
+                tells.lost_false f (4096 * f) (omega arith) (omega arith) (λ is. other (sym (piece (4096 * f) after below) ∙ is))
           ]
     ];
     all = λ x above below. absurd (omega arith);

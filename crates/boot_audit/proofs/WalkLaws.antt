@@ -130,7 +130,7 @@ fills_false b at until (c ∷ cs) start order is =
 record IsFront (front : List BlockLineView) (last : BlockLineView) (from : ℕ) : Type 0 where
   pub some : first last < end last
   pub low : from ≤ first last
-  pub behind : (b : BlockLineView) (f : ℕ) → end last ≤ f → is_in_same_zone_block b front f ≡ false
+  pub after : (b : BlockLineView) (f : ℕ) → end last ≤ f → is_in_same_zone_block b front f ≡ false
   pub alone : (b : BlockLineView) (f : ℕ) → first last ≤ f → f < end last → is_in_same_zone_block b front f ≡ are_of_one_zone b last
   pub kin : (f : ℕ) → from ≤ f → f < end last → is_in_same_zone_block last front f ≡ true
   pub before : (f : ℕ) → f + 1 ≡ from → is_in_same_zone_block last front f ≡ false
@@ -193,7 +193,7 @@ front_new : (front : List BlockLineView) (b : BlockLineView)
 front_new front b none apart = record {
   some = some_frame b;
   low = omega arith;
-  behind = λ c f past. let more = some_frame b in back_only c front (b ∷ []) f (none c f (omega arith)) ∙ one_out c b f past;
+  after = λ c f past. let more = some_frame b in back_only c front (b ∷ []) f (none c f (omega arith)) ∙ one_out c b f past;
   alone = λ c f above below. back_only c front (b ∷ []) f (none c f above) ∙ one_in c b f above below;
   kin = λ f above below. back_only b front (b ∷ []) f (none b f above) ∙ one_in b b f above below ∙ kin_itself b;
   before = λ f is. front_only b front (b ∷ []) f (one_under b b f (omega arith)) ∙ apart f is;
@@ -205,14 +205,14 @@ front_more : (front : List BlockLineView) (last b : BlockLineView) (from : ℕ) 
 front_more front last b from known touch kin = record {
   some = some_frame b;
   low = let a = known.low in let s = known.some in omega arith;
-  behind = λ c f past. let more = some_frame b in
-      back_only c front (b ∷ []) f (known.behind c f (omega arith)) ∙ one_out c b f past;
-  alone = λ c f above below. back_only c front (b ∷ []) f (known.behind c f (omega arith)) ∙ one_in c b f above below;
+  after = λ c f past. let more = some_frame b in
+      back_only c front (b ∷ []) f (known.after c f (omega arith)) ∙ one_out c b f past;
+  alone = λ c f above below. back_only c front (b ∷ []) f (known.after c f (omega arith)) ∙ one_in c b f above below;
   kin = λ f above below. elim (cases_lt f (first b)) as (λ _. is_in_same_zone_block b (front ++ (b ∷ [])) f ≡ true) [
     | inl under ↦
         front_only b front (b ∷ []) f (one_under b b f under) ∙ kin_lists last b kin front f ∙ known.kin f above (omega arith)
     | inr here ↦
-        back_only b front (b ∷ []) f (known.behind b f (omega arith)) ∙ one_in b b f here below ∙ kin_itself b
+        back_only b front (b ∷ []) f (known.after b f (omega arith)) ∙ one_in b b f here below ∙ kin_itself b
   ];
   before = λ f is. let a = known.low in let s = known.some in
       front_only b front (b ∷ []) f (one_under b b f (omega arith)) ∙ kin_lists last b kin front f ∙ known.before f is;
@@ -232,7 +232,7 @@ front_apart front last b from f known start stops is =
           let other : are_of_one_zone last b ≡ false = rw same at stops in
           let s = known.some in
           known.alone b f (omega arith) inside ∙ kin_turns b last ∙ other
-      | inr past ↦ known.behind b f past
+      | inr past ↦ known.after b f past
     ]
 
 next_front : (front : List BlockLineView) (last : Option BlockLineView) (from : ℕ) (b : BlockLineView) → Front front last from
@@ -247,7 +247,7 @@ next_front front (Some last) from b known start =
         let parts = and_parts (end last == first b) (are_of_one_zone last b) is in
         front_more front last b from known ((Decides-eqb (end last) (first b)).0 parts.0) parts.1
     by_test false is =
-        front_new front b (λ c f above. known.behind c f (omega arith)) (λ f one. front_apart front last b from f known start is one)
+        front_new front b (λ c f above. known.after c f (omega arith)) (λ f one. front_apart front last b from f known start is one)
 
 -- this and the next: the first frame of a block lies in the block's parent
 parent_low : (b : BlockLineView) → (parent_of b).base ≤ first b
@@ -268,7 +268,7 @@ module _ (b : BlockLineView) (front bs : List BlockLineView) (from : ℕ) (known
             front_only b front bs f (says_below (are_of_one_zone b) frames_of_block (end b) f bs start order inside)
             ∙ known.kin f (omega arith) inside
         | inr past ↦
-            back_only b front bs f (known.behind b f past) ∙ fills_true b (end b) (end_of (parent_of b)) bs start order full f past below
+            back_only b front bs f (known.after b f past) ∙ fills_true b (end b) (end_of (parent_of b)) bs start order full f past below
       ])
 
   apart_front : nat_le from (parent_of b).base ≡ false → each_in (parent_of b) (is_in_same_zone_block b (front ++ bs)) ≡ false
@@ -282,20 +282,20 @@ module _ (b : BlockLineView) (front bs : List BlockLineView) (from : ℕ) (known
       (front_only b front bs (from - 1) (says_below (are_of_one_zone b) frames_of_block (end b) (from - 1) bs start order (omega arith))
       ∙ known.before (from - 1) (omega arith))
 
-  apart_behind : is_covered_up_to b (end b) (end_of (parent_of b)) bs ≡ false
+  apart_after : is_covered_up_to b (end b) (end_of (parent_of b)) bs ≡ false
       → each_in (parent_of b) (is_in_same_zone_block b (front ++ bs)) ≡ false
-  apart_behind gaps =
+  apart_after gaps =
       let gap = fills_false b (end b) (end_of (parent_of b)) bs start order gaps in
       let above : end b ≤ gap.0 = gap.1 in
       let some = known.some in
       let low = parent_low b in
       each_in-fails (parent_of b) (is_in_same_zone_block b (front ++ bs)) gap.0 (omega arith) gap.2
-      (back_only b front bs gap.0 (known.behind b gap.0 above) ∙ gap.3)
+      (back_only b front bs gap.0 (known.after b gap.0 above) ∙ gap.3)
 
   each_is : (low full : Bool) → nat_le from (parent_of b).base ≡ low → is_covered_up_to b (end b) (end_of (parent_of b)) bs ≡ full
       → each_in (parent_of b) (is_in_same_zone_block b (front ++ bs)) ≡ (low && full)
   each_is true true low full = joined low full
-  each_is true false low full = apart_behind full
+  each_is true false low full = apart_after full
   each_is false full low is = apart_front low
 
   joins_is : could_merge (front ++ bs) b ≡ could_merge_after_run from b bs

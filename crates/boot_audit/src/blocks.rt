@@ -77,7 +77,7 @@ pub fn first_frame(block: &BlockLine) -> u64
 /// Returns the number of the frame after the block's last one.
 pub fn end_frame(block: &BlockLine) -> u64
     ensures value { result ≡ end_of (frames_of_block block.now) }
-    ensures behind { (frames_of_block block.now).base < result }
+    ensures after { (frames_of_block block.now).base < result }
     ensures small { result < 2 ^ 53 }
 {
     block.at / FRAME_SIZE + (1 << block.order)

@@ -141,7 +141,7 @@ struct Coverage {
 /// end above `at`, so only the first one matters. `at` must be below 2^52.
 fn coverage_at<L: RangeLine>(lines: &[L], at: u64) -> Coverage
     requires order { AscendApart (map L.extent lines.now) }
-    requires behind { FirstEndsAbove at (map L.extent lines.now) }
+    requires after { FirstEndsAbove at (map L.extent lines.now) }
     requires near { at < 2 ^ 52 }
     ensures forward { at < result.until }
     ensures says { (x : ℕ) → at ≤ x → x < result.until
@@ -171,7 +171,7 @@ fn coverage_at<L: RangeLine>(lines: &[L], at: u64) -> Coverage
 fn skip_lines_below<L: RangeLine>(lines: &[L], at: u64) -> &[L]
     requires { AscendApart (map L.extent lines.now) }
     ensures order { AscendApart (map L.extent result.now) }
-    ensures behind { FirstEndsAbove at (map L.extent result.now) }
+    ensures after { FirstEndsAbove at (map L.extent result.now) }
     ensures says { (x : ℕ) → at ≤ x → is_in_relevant_line L.counted L.extent result.now x
         ≡ is_in_relevant_line L.counted L.extent lines.now x }
 {
@@ -242,11 +242,11 @@ fn state_run_from(
     at: u64,
 ) -> StateRun
     requires map_order { AscendApart (map (λ l. l.range) runs.now) }
-    requires map_behind { FirstEndsAbove at (map (λ l. l.range) runs.now) }
+    requires map_after { FirstEndsAbove at (map (λ l. l.range) runs.now) }
     requires owner_order { AscendApart (map (λ r. r) owners.now) }
-    requires owner_behind { FirstEndsAbove at (map (λ r. r) owners.now) }
+    requires owner_after { FirstEndsAbove at (map (λ r. r) owners.now) }
     requires block_order { AscendApart (map bytes_of_block blocks.now) }
-    requires block_behind { FirstEndsAbove at (map bytes_of_block blocks.now) }
+    requires block_after { FirstEndsAbove at (map bytes_of_block blocks.now) }
     requires near { at < 2 ^ 52 }
     ensures forward { at < result.until }
     ensures near { result.until ≤ 2 ^ 52 }

@@ -48,9 +48,9 @@ then_comes input x f first rest = grind (arith, rest)
 pub later_comes : (input : Input) (held : FileContents) (named : FileNames) (files : List File) → IsTrue (are_read_later input files)
     → (given : InputsView)
     → ReachesFile input_place input (inputs_after_files held named files given)
-later_comes input held named [] behind given = tt
-later_comes input held named (file ∷ files) behind given =
-    let parts = and_parts (nat_lt (input_place input) (input_place file.input)) (are_read_later input files) behind in
+later_comes input held named [] after given = tt
+later_comes input held named (file ∷ files) after given =
+    let parts = and_parts (nat_lt (input_place input) (input_place file.input)) (are_read_later input files) after in
     let below : input_place input < input_place file.input = ltb-true _ _ parts.0 in
     then_comes input (inputs_after_file held named file given) (inputs_after_files held named files)
     (step_comes input held file given (named file.input) (omega (arith, below))) (later_comes input held named files parts.1)
@@ -88,9 +88,9 @@ first_by error file files place own by =
     (leb-true _ _ (and_parts (nat_le (input_place file.input) place) (are_read_up_to place files) by).0)
 
 -- a file is reported unread only if the count of its faults rose, and before it no count fell
-pub cause_behind : {A : Type 0} (before mid now : List ℕ → ℕ) (named : FileNames) (answer : Result A NoInputs)
+pub cause_after : {A : Type 0} (before mid now : List ℕ → ℕ) (named : FileNames) (answer : Result A NoInputs)
     → ((any : List ℕ) → before any ≤ mid any) → IfErr answer (IsFileError mid now named) → IfErr answer (IsFileError before now named)
-cause_behind before mid now named answer stay cause = grind arith
+cause_after before mid now named answer stay cause = grind arith
 
 -- what is known after one file was read
 pub record IsAdded {F : Type 0} (kind : FilesOf F) (names : FileNames) (file : File) (old new : F) (before after : InputsView)
@@ -126,7 +126,7 @@ module _ {F : Type 0} (kind : FilesOf F) (names : FileNames) (file : File) (file
       → AreRead kind names (file ∷ files) old new before after result
   gone_on old mid new before between after result added rest = record {
     fetches = if_both (kind.holds old) _ _ _ (λ held is fetches. rw is fetches) added.fetches (rw added.kept at rest.fetches);
-    cause = cause_behind (kind.faults old) (kind.faults mid) (kind.faults new) names result added.faults_stay rest.cause;
+    cause = cause_after (kind.faults old) (kind.faults mid) (kind.faults new) names result added.faults_stay rest.cause;
     own = λ place by.
         rest.own place (and_parts (nat_le (input_place file.input) place) (are_read_up_to place files) by).1;
     unnamed = rest.unnamed;

@@ -168,8 +168,8 @@ entries_lack held named before after lacks none is = elim (step_says held efi_fi
 abbrev until_line : List File
 until_line = zero_page ∷ extension_file ∷ []
 
-abbrev behind_line : List File
-behind_line = srat_file ∷ script_file ∷ pages_file ∷ slit_file ∷ []
+abbrev after_line : List File
+after_line = srat_file ∷ script_file ∷ pages_file ∷ slit_file ∷ []
 
 -- the files before the EFI memory map don't change these parts of the inputs
 start_keeps : {A : Type 0} (part : InputsView → A) → ((page : ZeroPageView) (g : InputsView) → part (set_zero_page page g) ≡ part g)
@@ -183,7 +183,7 @@ rest_keeps : {A : Type 0} (part : InputsView → A) → ((t : SratView) (g : Inp
     → ((ls : List Line) (g : InputsView) → part (set_early_script ls g) ≡ part g)
     → ((ls : List PageLine) (g : InputsView) → part (set_page_script ls g) ≡ part g)
     → ((m : SlitView) (g : InputsView) → part (set_slit m g) ≡ part g)
-    → AllKeep part behind_line
+    → AllKeep part after_line
 rest_keeps part domains lines pages distances = (
   (λ bytes before after. value_keeps part set_srat (srat_or_fault bytes) before after domains),
   (
@@ -199,7 +199,7 @@ rest_keeps part domains lines pages distances = (
 -- of the command line.
 record AreRead (held : FileContents) (named : FileNames) (begun given : InputsView) : Type 0 where
   before : InputsView
-  first : inputs_after_files held named (until_line ++ (command_line ∷ behind_line)) begun ≡ Ok before
+  first : inputs_after_files held named (until_line ++ (command_line ∷ after_line)) begun ≡ Ok before
   step : inputs_after_file held named efi_file before ≡ Ok given
   no_map : before.efi ≡ None
   lacks : LacksEfiWord held named → before.options.add_efi ≡ false
@@ -208,9 +208,9 @@ are_read : (held : FileContents) (named : FileNames) (begun given : InputsView) 
     → inputs_of held named begun ≡ Ok given
     → AreRead held named begun given
 are_read held named begun given start is =
-    let by = split held named (until_line ++ (command_line ∷ behind_line)) (efi_file ∷ []) begun given is in
-    let at_line = split held named until_line (command_line ∷ behind_line) begun by.middle by.first in
-    let over_line = split held named (command_line ∷ []) behind_line at_line.middle by.middle at_line.rest in
+    let by = split held named (until_line ++ (command_line ∷ after_line)) (efi_file ∷ []) begun given is in
+    let at_line = split held named until_line (command_line ∷ after_line) begun by.middle by.first in
+    let over_line = split held named (command_line ∷ []) after_line at_line.middle by.middle at_line.rest in
     let line = last_step held named command_line at_line.middle over_line.middle over_line.first in
     let part : InputsView → OptionsView × Option EfiMapView = λ g. (g.options, g.efi) in
     let early = files_keep part held named until_line begun at_line.middle
@@ -218,7 +218,7 @@ are_read held named begun given start is =
     let asked = step_keeps (λ (g : InputsView). g.efi) held named command_line at_line.middle over_line.middle
     (λ bytes before after.
     value_keeps (λ (g : InputsView). g.efi) set_command_line (options_or_fault bytes) before after (λ chosen g. refl)) line in
-    let late = files_keep part held named behind_line over_line.middle by.middle
+    let late = files_keep part held named after_line over_line.middle by.middle
     (rest_keeps part (λ t g. refl) (λ ls g. refl) (λ ls g. refl) (λ m g. refl)) over_line.rest in
     record {
       before = by.middle;
@@ -250,7 +250,7 @@ same_map held named begun given read none =
     let same : claims given ≡ claims (without_efi_map given) =
     ap (final_claims given.entries given.extension given.options.edits) (none ∙ sym (none_added given.options.add_efi)) in
     record {
-      inputs = inputs_after_files-append held (without_efi named) (until_line ++ (command_line ∷ behind_line)) (efi_file ∷ []) begun
+      inputs = inputs_after_files-append held (without_efi named) (until_line ++ (command_line ∷ after_line)) (efi_file ∷ []) begun
           ∙ rw read.first (ap (λ (g : InputsView). Ok g) (own ∙ sym other));
       claims = λ x. ap (λ (c : Claims). c x) same;
       judged = rw (none, none_added given.options.add_efi) refl;

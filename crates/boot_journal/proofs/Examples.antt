@@ -36,7 +36,7 @@ plain_is_another same = cc (ap (λ (l : Option LabelView). option_map_or (λ (m 
 
 -- the byte in the middle of the frame is at an end of a range, and has other marks than the first
 middle_differs : EdgeDiffers None half 4096 6144
-middle_differs = record { behind = omega arith; inside = omega arith; other = plain_is_another }
+middle_differs = record { after = omega arith; inside = omega arith; other = plain_is_another }
 
 middle_is_an_edge : ItemAgrees None half 4096 (item.Node (bytes 4096 2048) 3) → ⊥
 middle_is_an_edge agree = plain_is_another (agree.1 (omega arith) (omega arith))

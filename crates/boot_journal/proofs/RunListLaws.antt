@@ -30,14 +30,14 @@ module _ {X : Type 0} where
       → drop a (set (copy_within ys front (front + i) a) (a + i) x) ≡ take i (drop front ys) ++ x ∷ drop i (drop front ys)
   drop-moved a front i x ys is within =
       let moved : List X = take i (drop front ys) in
-      let behind : List X = drop (a + i) ys in
+      let after : List X = drop (a + i) ys in
       let count : front + i - front ≡ i = omega arith in
       let len : length moved ≡ i = length-take-le i (drop front ys) (omega (arith, length-drop front ys)) in
       let next : a + i + 1 ≡ front + i = omega arith in
       let none : i - i ≡ 0 = omega arith in
-      rw count (drop-set-add a ((take a ys ++ moved) ++ behind) i x)
-      ∙ ap (λ l. set l i x) (ap (drop a) (append_assoc (take a ys) moved behind) ∙ drop_at (take a ys) (moved ++ behind) a
+      rw count (drop-set-add a ((take a ys ++ moved) ++ after) i x)
+      ∙ ap (λ l. set l i x) (ap (drop a) (append_assoc (take a ys) moved after) ∙ drop_at (take a ys) (moved ++ after) a
       (length-take-le a ys (omega arith)))
-      ∙ set-append_right moved behind i i x len (omega arith)
-      ∙ ap (λ l. moved ++ l) (ap (λ k. set behind k x) none ∙ set_split behind 0 x (omega (arith, length-drop (a + i) ys)))
+      ∙ set-append_right moved after i i x len (omega arith)
+      ∙ ap (λ l. moved ++ l) (ap (λ k. set after k x) none ∙ set_split after 0 x (omega (arith, length-drop (a + i) ys)))
       ∙ ap (λ l. moved ++ x ∷ l) (drop-drop 1 (a + i) ys ∙ ap (λ k. drop k ys) next ∙ sym (drop-drop i front ys))

@@ -34,7 +34,7 @@ EdgeAgrees whole items first e = first < e → e < first + FRAME_SIZE → marks_
 
 -- the address is inside the frame, and its byte has other marks than the frame's first byte
 pub record EdgeDiffers (whole : Option LabelView) (items : List Item) (first e : ℕ) : Type 0 where
-  pub behind : first < e
+  pub after : first < e
   pub inside : e < first + FRAME_SIZE
   pub other : marks_after_items whole items e ≢ marks_after_items whole items first
 

@@ -64,8 +64,8 @@ impl RunList {
         ensures err { OnErr result (self.new ≡ self.old) }
     {
         let more = more as usize;
-        let behind = self.records.capacity() - self.records.len();
-        if more <= self.front && more <= behind {
+        let after = self.records.capacity() - self.records.len();
+        if more <= self.front && more <= after {
             return Ok(());
         }
         self.widen(more)
@@ -127,8 +127,8 @@ impl Slots<OwnerRun> for RunList {
     fn insert(&mut self, i: u64, item: OwnerRun) {
         let i = i as usize;
         let count = self.records.len() - self.front;
-        let behind = self.records.capacity() - self.records.len();
-        if moves_lower_runs(i, count, self.front, behind) {
+        let after = self.records.capacity() - self.records.len();
+        if moves_lower_runs(i, count, self.front, after) {
             insert_low(&mut self.records, self.front, i, item);
             self.front -= 1;
         } else {
@@ -138,11 +138,11 @@ impl Slots<OwnerRun> for RunList {
 
     fn close(&mut self, i: u64, n: u64) {
         let (i, n) = (i as usize, n as usize);
-        let behind = self.records.len() - self.front - i - n;
+        let after = self.records.len() - self.front - i - n;
         if n == 0 {
             return;
         }
-        if i < behind {
+        if i < after {
             self.records
                 .copy_within(self.front..self.front + i, self.front + n);
             self.front += n;
@@ -160,15 +160,15 @@ impl Slots<OwnerRun> for RunList {
 
 /// Tests whether inserting a run at index `i`, of `count` runs, should move the runs before it
 /// down, instead of moving those after it up. There is room for `front` runs before the first run,
-/// and for `behind` runs after the last one. The answer is true if there is no room after the last
+/// and for `after` runs after the last one. The answer is true if there is no room after the last
 /// run, or if there is room before the first run and fewer runs are before index `i` than after it.
-fn moves_lower_runs(i: usize, count: usize, front: usize, behind: usize) -> bool
+fn moves_lower_runs(i: usize, count: usize, front: usize, after: usize) -> bool
     requires within { i ≤ count }
-    requires room { 0 < front + behind }
+    requires room { 0 < front + after }
     ensures low { IsTrue result → 0 < front }
-    ensures high { result ≡ false → 0 < behind }
+    ensures high { result ≡ false → 0 < after }
 {
-    behind == 0 || (front > 0 && i < count - i)
+    after == 0 || (front > 0 && i < count - i)
 }
 
 /// Inserts a run at index `i`, counted from `front`, by moving the runs before it down by one,

@@ -53,11 +53,11 @@ pub accepted_map_is_unchanged : (inputs : InputsView) (made : BootSoFar) → jud
     → (made ≡ begin_boot inputs) × (judge_frames (types_in_reach inputs) ≡ None)
     × (nat_lt E820_MAX_ENTRIES (length (map_of (claims inputs))) ≡ false)
 accepted_map_is_unchanged inputs made ends =
-    let behind_room = passes map_size_stage (drop 1 (map_stages inputs)) (begin_boot inputs) made ends in
-    let behind_frames = passes (usable_frames_stage inputs) (drop 2 (map_stages inputs)) behind_room.middle made behind_room.rest in
-    let room = room_passed _ _ (begin_boot inputs) behind_room.middle behind_room.first in
-    let frames = frames_passed _ behind_room.middle behind_frames.middle behind_frames.first in
-    let last : behind_frames.middle ≡ made = cc in
+    let after_room = passes map_size_stage (drop 1 (map_stages inputs)) (begin_boot inputs) made ends in
+    let after_frames = passes (usable_frames_stage inputs) (drop 2 (map_stages inputs)) after_room.middle made after_room.rest in
+    let room = room_passed _ _ (begin_boot inputs) after_room.middle after_room.first in
+    let frames = frames_passed _ after_room.middle after_frames.middle after_frames.first in
+    let last : after_frames.middle ≡ made = cc in
     (sym (room.1 ∙ frames.1 ∙ last), frames.0, room.0)
 
 -- the lines of a script leave the map as it is
@@ -89,8 +89,8 @@ later_keep extra inputs =
     let early = claims_map inputs.kernel extra.claims in
     let sections = steps_keep map cause_of_stage made_with_sections (place_present_sections inputs.width) (λ a m. refl) (λ before. refl) in
     let before = lines_map inputs.kernel (lines_before_sections inputs.lines) in
-    let behind = lines_map inputs.kernel (lines_after_sections inputs.lines) in
-    (memory, (early, (nodes, (crash, (before, (sections, (behind, tt)))))))
+    let after = lines_map inputs.kernel (lines_after_sections inputs.lines) in
+    (memory, (early, (nodes, (crash, (before, (sections, (after, tt)))))))
 
 pub goes_on : (extra : ExtraView) (inputs : InputsView) (made : BootSoFar) → boot_with extra inputs ≡ Ok made → AcceptsMap inputs made
 unfolding boot_with

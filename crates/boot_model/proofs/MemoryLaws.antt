@@ -140,25 +140,25 @@ by_labels stage keeps before last ends = let held : Labels → ℕ → Bool = λ
 pub labels_keep : (extra : ExtraView) (inputs : InputsView) → AllKeep labels_by (drop 3 (later_stages extra inputs))
 labels_keep extra inputs =
     let before = lines_labels inputs.kernel (lines_before_sections inputs.lines) in
-    let behind = lines_labels inputs.kernel (lines_after_sections inputs.lines) in
-    (crash_labels extra.profile inputs, (before, (section_labels inputs, (behind, tt))))
+    let after = lines_labels inputs.kernel (lines_after_sections inputs.lines) in
+    (crash_labels extra.profile inputs, (before, (section_labels inputs, (after, tt))))
 
 -- the stages after memory is made don't change which bytes are memory
 memory_keep : (extra : ExtraView) (inputs : InputsView) → AllKeep held_by (drop 1 (later_stages extra inputs))
 memory_keep extra inputs =
     let before = by_labels _ (lines_labels inputs.kernel (lines_before_sections inputs.lines)) in
-    let behind = by_labels _ (lines_labels inputs.kernel (lines_after_sections inputs.lines)) in (
+    let after = by_labels _ (lines_labels inputs.kernel (lines_after_sections inputs.lines)) in (
       by_labels _ (claims_labels inputs.kernel extra.claims),
-      (nodes_hold inputs, (by_labels _ (crash_labels extra.profile inputs), (before, (by_labels _ (section_labels inputs), (behind, tt))))),
+      (nodes_hold inputs, (by_labels _ (crash_labels extra.profile inputs), (before, (by_labels _ (section_labels inputs), (after, tt))))),
     )
 
 -- the stages after memory is made leave the limit as it is
 limit_keep : (extra : ExtraView) (inputs : InputsView) → AllKeep bound_by (drop 1 (later_stages extra inputs))
 limit_keep extra inputs =
     let before = lines_bound inputs.kernel (lines_before_sections inputs.lines) in
-    let behind = lines_bound inputs.kernel (lines_after_sections inputs.lines) in (
+    let after = lines_bound inputs.kernel (lines_after_sections inputs.lines) in (
       claims_bound inputs.kernel extra.claims,
-      (nodes_bound inputs, (crash_bound extra.profile inputs, (before, (section_bound inputs, (behind, tt))))),
+      (nodes_bound inputs, (crash_bound extra.profile inputs, (before, (section_bound inputs, (after, tt))))),
     )
 
 -- after the boot, which bytes are memory, and the limit, are as the stage left them that made
@@ -173,14 +173,14 @@ pub memory_made : (extra : ExtraView) (inputs : InputsView) (made : BootSoFar) �
 unfolding boot_with
 memory_made extra inputs made ends =
     let judged = goes_by (judge_map inputs) (λ m. run_each_stage (later_stages extra inputs) m) made ends in
-    let behind = passes (memory_stage inputs) (drop 1 (later_stages extra inputs)) judged.middle made judged.rest in
+    let after = passes (memory_stage inputs) (drop 1 (later_stages extra inputs)) judged.middle made judged.rest in
     let known = accepted_map_is_unchanged inputs judged.middle judged.first in
     record {
-      first = behind.middle;
+      first = after.middle;
       carried = ap (λ (m : BootSoFar). carry_out_items (early_items (early_inputs inputs) m.map) m.items) (sym known.0)
-          ∙ memory_carried inputs judged.middle behind.middle behind.first;
-      memory = chain_keeps held_by (drop 1 (later_stages extra inputs)) (memory_keep extra inputs) behind.middle made behind.rest;
-      limit = chain_keeps bound_by (drop 1 (later_stages extra inputs)) (limit_keep extra inputs) behind.middle made behind.rest;
+          ∙ memory_carried inputs judged.middle after.middle after.first;
+      memory = chain_keeps held_by (drop 1 (later_stages extra inputs)) (memory_keep extra inputs) after.middle made after.rest;
+      limit = chain_keeps bound_by (drop 1 (later_stages extra inputs)) (limit_keep extra inputs) after.middle made after.rest;
     }
 
 -- below the limit of physical addresses, the map has the types that the claims give

@@ -117,11 +117,11 @@ first_after_claims reach kernel lines before last first ends =
 pub claimed_known : (inputs : InputsView) (lines : List Line) (first made : BootSoFar) → judge_map inputs ≡ Ok first
     → run_each_stage (memory_stage inputs ∷ claims_stage inputs.kernel lines ∷ []) first ≡ Ok made → IsFirstMemory (reach inputs) made.items
 claimed_known inputs lines first made judged ends =
-    let behind = passes (memory_stage inputs) (claims_stage inputs.kernel lines ∷ []) first made ends in
-    let early = passes (claims_stage inputs.kernel lines) [] behind.middle made behind.rest in
-    let known = first_known inputs first behind.middle.items judged (memory_carried inputs first behind.middle behind.first) in
+    let after = passes (memory_stage inputs) (claims_stage inputs.kernel lines ∷ []) first made ends in
+    let early = passes (claims_stage inputs.kernel lines) [] after.middle made after.rest in
+    let known = first_known inputs first after.middle.items judged (memory_carried inputs first after.middle after.first) in
     let same : early.middle ≡ made = cc (early.rest) in
-    rw (← same) (first_after_claims (reach inputs) inputs.kernel lines behind.middle early.middle known early.first)
+    rw (← same) (first_after_claims (reach inputs) inputs.kernel lines after.middle early.middle known early.first)
 
 -- memory has its nodes after any later stages that leave its labels, for example at the end of the
 -- boot
@@ -131,11 +131,11 @@ pub later_memory_has_nodes : (inputs : InputsView) (lines : List Line) (first ma
     → run_each_stage (memory_stage inputs ∷ claims_stage inputs.kernel lines ∷ nodes_stage inputs ∷ rest) first ≡ Ok made
     → IsMemoryWithNodes (reach inputs) (memory_of made.items)
 later_memory_has_nodes inputs lines first made rest judged keep ends =
-    let behind = passes (memory_stage inputs) (claims_stage inputs.kernel lines ∷ nodes_stage inputs ∷ rest) first made ends in
-    let early = passes (claims_stage inputs.kernel lines) (nodes_stage inputs ∷ rest) behind.middle made behind.rest in
+    let after = passes (memory_stage inputs) (claims_stage inputs.kernel lines ∷ nodes_stage inputs ∷ rest) first made ends in
+    let early = passes (claims_stage inputs.kernel lines) (nodes_stage inputs ∷ rest) after.middle made after.rest in
     let nodes = passes (nodes_stage inputs) rest early.middle made early.rest in
-    let known = first_known inputs first behind.middle.items judged (memory_carried inputs first behind.middle behind.first) in
-    let claimed = first_after_claims (reach inputs) inputs.kernel lines behind.middle early.middle known early.first in
+    let known = first_known inputs first after.middle.items judged (memory_carried inputs first after.middle after.first) in
+    let claimed = first_after_claims (reach inputs) inputs.kernel lines after.middle early.middle known early.first in
     rw (chain_keeps labels_by rest keep nodes.middle made nodes.rest) (nodes_known inputs early.middle nodes.middle claimed nodes.first)
 
 pub noded_told : (extra : ExtraView) (inputs : InputsView) (made : BootSoFar) → boot_with extra inputs ≡ Ok made

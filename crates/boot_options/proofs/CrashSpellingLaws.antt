@@ -226,17 +226,17 @@ lacks-joined (text ∷ u ∷ texts) (r ∷ rs) spell =
     lacks-append 64 text (44 ∷ join_with_commas (u ∷ texts)) (lacks-range text r 64 refl refl refl spell.0)
     (refl, lacks-joined (u ∷ texts) rs spell.1)
 
-front-joined : (text : List ℕ) (texts : List (List ℕ)) (behind : List ℕ)
-    → (rest : List ℕ) × (join_with_commas (text ∷ texts) ++ behind ≡ text ++ rest)
-front-joined text [] behind = (behind, refl)
-front-joined text (u ∷ texts) behind =
-    ((44 ∷ join_with_commas (u ∷ texts)) ++ behind, append_assoc text (44 ∷ join_with_commas (u ∷ texts)) behind)
+front-joined : (text : List ℕ) (texts : List (List ℕ)) (after : List ℕ)
+    → (rest : List ℕ) × (join_with_commas (text ∷ texts) ++ after ≡ text ++ rest)
+front-joined text [] after = (after, refl)
+front-joined text (u ∷ texts) after =
+    ((44 ∷ join_with_commas (u ∷ texts)) ++ after, append_assoc text (44 ∷ join_with_commas (u ∷ texts)) after)
 
-has-colon : (text : List ℕ) (texts : List (List ℕ)) (rs : List CrashRange) (behind : List ℕ) → SpellRanges (text ∷ texts) rs
-    → is_some (split_once 58 (join_with_commas (text ∷ texts) ++ behind)) ≡ true
-has-colon text texts [] behind spell = absurd spell
-has-colon text texts (r ∷ rs) behind spell =
-    let front = front-joined text texts behind in rw (front.1, split_once-range text front.0 r spell.0) refl
+has-colon : (text : List ℕ) (texts : List (List ℕ)) (rs : List CrashRange) (after : List ℕ) → SpellRanges (text ∷ texts) rs
+    → is_some (split_once 58 (join_with_commas (text ∷ texts) ++ after)) ≡ true
+has-colon text texts [] after spell = absurd spell
+has-colon text texts (r ∷ rs) after spell =
+    let front = front-joined text texts after in rw (front.1, split_once-range text front.0 r spell.0) refl
 
 form-ranges_form : (value front : List ℕ) (base : ℕ) (rs : List CrashRange) → is_some (split_once 58 value) ≡ true
     → text_and_base value ≡ Some (front, base) → crash_ranges_of (parts_in (Byte 44) front) ≡ Some rs

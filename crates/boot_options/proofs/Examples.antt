@@ -153,9 +153,9 @@ edits_of_options : (edits_of (all_map_options three_words) ≡ Clear ∷ Add (ra
 edits_of_options = (refl, refl, refl, refl)
 
 -- the last `exactmap`, and the number of map options that add a range after it
-two_behind_it : (last_exact (all_map_options three_words) ≡ Some (1, 2)) × (count_adding (all_map_options three_words) ≡ 2)
+two_after_it : (last_exact (all_map_options three_words) ≡ Some (1, 2)) × (count_adding (all_map_options three_words) ≡ 2)
     × (count_adding ((1, ExactMap) ∷ (2, Other None) ∷ []) ≡ 0)
-two_behind_it = (refl, refl, refl)
+two_after_it = (refl, refl, refl)
 
 -- after the last of two words with `exactmap` one map option adds a range; a line without
 -- `exactmap` has none
@@ -225,10 +225,10 @@ two_wanted = record { word = 3; wanting = 2 }
 abbrev one_wanted : UserMap
 one_wanted = record { word = 3; wanting = 1 }
 
-wanted_behind : (user_map_after_option 3 ExactMap None ≡ Some two_wanted)
+wanted_after : (user_map_after_option 3 ExactMap None ≡ Some two_wanted)
     × (user_map_after_option 4 a_page (Some two_wanted) ≡ Some one_wanted)
     × (user_map_after_option 4 (Other None) (Some two_wanted) ≡ Some two_wanted) × (user_map_after_option 4 a_page None ≡ None)
-wanted_behind = (refl, refl, refl, refl)
+wanted_after = (refl, refl, refl, refl)
 
 -- the reader has the edits of its state; if it ran out of memory, its state has at least one edit
 edits_are_kept : (kept : Vec Edit Global) → kept.items ≡ Clear ∷ [] → KeepsItems (Ok kept) (Clear ∷ [])

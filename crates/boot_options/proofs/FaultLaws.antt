@@ -240,15 +240,15 @@ word_meanings_from-fault number (word ∷ words) n w is =
     by_said (Ok said) sound fault rest is = later (sound said refl) (rest (by_others said (word_meanings_from (number + 1) words) is))
     by_said (Err f) sound fault rest is = first f (fault f refl) cc
 
-word_meanings_from-first : (number : ℕ) (front : List (List ℕ)) (word : List ℕ) (behind : List (List ℕ)) (n : Name)
+word_meanings_from-first : (number : ℕ) (front : List (List ℕ)) (word : List ℕ) (after : List (List ℕ)) (n : Name)
     → AllByRecursion IsSoundWord front
-    → HasNone n (name_value_of word) → word_meanings_from number (front ++ (word ∷ behind)) ≡ Err (fault_at n (number + length front))
-word_meanings_from-first number [] word behind n sound has =
+    → HasNone n (name_value_of word) → word_meanings_from number (front ++ (word ∷ after)) ≡ Err (fault_at n (number + length front))
+word_meanings_from-first number [] word after n sound has =
     let here : number + 0 ≡ number = omega arith in
     rw here (rw (word_meaning-malformed number n (name_value_of word).0 (name_value_of word).1 has.0 has.1) refl)
-word_meanings_from-first number (first ∷ front) word behind n sound has =
+word_meanings_from-first number (first ∷ front) word after n sound has =
     let said = ok-sound number first sound.0 in
-    let rest = word_meanings_from-first (number + 1) front word behind n sound.1 has in
+    let rest = word_meanings_from-first (number + 1) front word after n sound.1 has in
     let place : number + 1 + length front ≡ number + suc (length front) = omega arith in
     rw (said.1, rest, place) refl
 

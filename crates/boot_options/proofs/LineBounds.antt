@@ -102,10 +102,10 @@ fit-said_from number (word ∷ words) above =
     (fit-said_from (number + 1) words (omega arith)) (λ others are. (above, is, are)))
 
 -- the map options of all words are sound
-pub sound-numbered : (number : ℕ) (ps : List MapOption) (behind : List (ℕ × MapOption))
-    → 0 < number → AreSound ps → AreNumbered behind → AreNumbered (numbered_map_options number ps behind)
-sound-numbered number [] behind above are rest = rest
-sound-numbered number (p ∷ ps) behind above are rest = (above, are.0, sound-numbered number ps behind above are.1 rest)
+pub sound-numbered : (number : ℕ) (ps : List MapOption) (after : List (ℕ × MapOption))
+    → 0 < number → AreSound ps → AreNumbered after → AreNumbered (numbered_map_options number ps after)
+sound-numbered number [] after above are rest = rest
+sound-numbered number (p ∷ ps) after above are rest = (above, are.0, sound-numbered number ps after above are.1 rest)
 
 pub sound-all_map_options : (said : List (ℕ × WordMeaning)) → AreSoundWords said → AreNumbered (all_map_options said)
 sound-all_map_options [] are = tt

@@ -11,9 +11,9 @@ use Rattle.boot_options.specs.Reading.{ReadingState, IsReadTo, IsInState, readin
 
 -- the option words of a line are its first word, unless that is `--`, and those of the rest;
 -- stated for the values that the reader compares
-pub option_words-read : (line word behind bare dashes : List ℕ) → words_in CommandLine line ≡ word ∷ words_in CommandLine behind
-    → bare ≡ unquote word → dashes ≡ codes "--" → false ≡ bytes_eq bare dashes → option_words line ≡ bare ∷ option_words behind
-option_words-read line word behind bare dashes is unquotes marks test =
+pub option_words-read : (line word after bare dashes : List ℕ) → words_in CommandLine line ≡ word ∷ words_in CommandLine after
+    → bare ≡ unquote word → dashes ≡ codes "--" → false ≡ bytes_eq bare dashes → option_words line ≡ bare ∷ option_words after
+option_words-read line word after bare dashes is unquotes marks test =
     let other : bytes_eq (unquote word) (codes "--") ≡ false = sym (rw (unquotes, marks) at test) in
     rw unquotes (rw is (rw other refl))
 

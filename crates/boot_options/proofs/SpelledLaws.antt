@@ -249,9 +249,9 @@ lacks-kind mark text kind other (there number _ is small) = (other, lacks-size n
 
 lacks-marked : (s a rest : List ℕ) (range : RangeView) (mark : ℕ) → mark == 44 ≡ false → SpellsPlace s a range → Lacks 44 rest
     → Lacks 44 (s ++ (mark ∷ (a ++ rest)))
-lacks-marked s a rest range mark other spell behind =
+lacks-marked s a rest range mark other spell after =
     lacks-append 44 s (mark ∷ (a ++ rest)) (lacks-size s 44 range.size refl spell.size)
-    (other, lacks-append 44 a rest (lacks-size a 44 range.base refl spell.base) behind)
+    (other, lacks-append 44 a rest (lacks-size a 44 range.base refl spell.base) after)
 
 lacks-adding : (s a : List ℕ) (range : RangeView) (mark : ℕ) → mark == 44 ≡ false → SpellsPlace s a range → Lacks 44 (s ++ (mark ∷ a))
 lacks-adding s a range mark other spell = rw (append-nil a) at (lacks-marked s a [] range mark other spell tt)

@@ -17,18 +17,18 @@ use Rattle.boot_options.specs.Options.{WordMeaning, OfMap, OfCrash, NumaOff, Add
 use Rattle.boot_options.specs.Reading.{ReadingState, start_state, reading_after_word, crash_option_after_form, user_map_less_one, user_map_after_option, after_map_option, after_map_options, after_words, after_meanings, options_of_end_state, at_line_end}
 
 -- an edit appended to others, followed by the edits after it
-pub edits-step : (front : List Edit) (e : Option Edit) (behind : List Edit)
-    → (front ++ cons_option e []) ++ behind ≡ front ++ cons_option e behind
-edits-step front None behind = rw append-nil refl
-edits-step front (Some e) behind = append_assoc front (e ∷ []) behind
+pub edits-step : (front : List Edit) (e : Option Edit) (after : List Edit)
+    → (front ++ cons_option e []) ++ after ≡ front ++ cons_option e after
+edits-step front None after = rw append-nil refl
+edits-step front (Some e) after = append_assoc front (e ∷ []) after
 
 -- the edits of a word's map options
-pub edits-map_options : (number : ℕ) (st : ReadingState) (ps : List MapOption) (behind : List (ℕ × MapOption))
-    → (after_map_options number st ps).edits ++ edits_of behind ≡ st.edits ++ edits_of (numbered_map_options number ps behind)
-edits-map_options number st [] behind = refl
-edits-map_options number st (p ∷ ps) behind =
-    edits-map_options number (after_map_option number st p) ps behind
-    ∙ edits-step st.edits (edit_of p) (edits_of (numbered_map_options number ps behind))
+pub edits-map_options : (number : ℕ) (st : ReadingState) (ps : List MapOption) (after : List (ℕ × MapOption))
+    → (after_map_options number st ps).edits ++ edits_of after ≡ st.edits ++ edits_of (numbered_map_options number ps after)
+edits-map_options number st [] after = refl
+edits-map_options number st (p ∷ ps) after =
+    edits-map_options number (after_map_option number st p) ps after
+    ∙ edits-step st.edits (edit_of p) (edits_of (numbered_map_options number ps after))
 
 -- the edits of all words
 pub edits-all : (st : ReadingState) (said : List (ℕ × WordMeaning))
@@ -119,11 +119,11 @@ abbrev pub user_map_after_options : List (ℕ × MapOption) → Option UserMap �
 user_map_after_options [] m = m
 user_map_after_options (p ∷ ps) m = user_map_after_options ps (user_map_after_option p.0 p.1 m)
 
-pub user_map-map_options : (number : ℕ) (st : ReadingState) (ps : List MapOption) (behind : List (ℕ × MapOption))
-    → user_map_after_options behind (after_map_options number st ps).user_map
-    ≡ user_map_after_options (numbered_map_options number ps behind) st.user_map
-user_map-map_options number st [] behind = refl
-user_map-map_options number st (p ∷ ps) behind = user_map-map_options number (after_map_option number st p) ps behind
+pub user_map-map_options : (number : ℕ) (st : ReadingState) (ps : List MapOption) (after : List (ℕ × MapOption))
+    → user_map_after_options after (after_map_options number st ps).user_map
+    ≡ user_map_after_options (numbered_map_options number ps after) st.user_map
+user_map-map_options number st [] after = refl
+user_map-map_options number st (p ∷ ps) after = user_map-map_options number (after_map_option number st p) ps after
 
 pub user_map-all : (st : ReadingState) (said : List (ℕ × WordMeaning))
     → (after_words st said).user_map ≡ user_map_after_options (all_map_options said) st.user_map

@@ -116,10 +116,10 @@ word_meanings_from number (word ∷ words) = do
   others ← word_meanings_from (number + 1) words
   Ok ((number, said) ∷ others)
 
--- the map options of one word, each with the number of the word, followed by the list `behind`
+-- the map options of one word, each with the number of the word, followed by the list `after`
 abbrev pub numbered_map_options : ℕ → List MapOption → List (ℕ × MapOption) → List (ℕ × MapOption)
-numbered_map_options number [] behind = behind
-numbered_map_options number (p ∷ ps) behind = (number, p) ∷ numbered_map_options number ps behind
+numbered_map_options number [] after = after
+numbered_map_options number (p ∷ ps) after = (number, p) ∷ numbered_map_options number ps after
 
 -- all map options in the order of the line, each with the number of its word
 abbrev pub all_map_options : List (ℕ × WordMeaning) → List (ℕ × MapOption)
@@ -201,12 +201,12 @@ count_adding ((number, Other edit) ∷ ps) = count_adding ps
 
 -- the last `exactmap` of a list of map options: the number of its word, and how many options after
 -- it add a range. The list begins with the option `p`, in the word `number`. The first argument is
--- the result for the options after `p`, and `behind` counts those of them that add a range.
+-- the result for the options after `p`, and `after` counts those of them that add a range.
 abbrev pub last_exact_map : Option (ℕ × ℕ) → ℕ → MapOption → ℕ → Option (ℕ × ℕ)
-last_exact_map (Some found) number p behind = Some found
-last_exact_map None number ExactMap behind = Some (number, behind)
-last_exact_map None number (Adding edit) behind = None
-last_exact_map None number (Other edit) behind = None
+last_exact_map (Some found) number p after = Some found
+last_exact_map None number ExactMap after = Some (number, after)
+last_exact_map None number (Adding edit) after = None
+last_exact_map None number (Other edit) after = None
 
 -- the last `exactmap` of the map options: the number of its word, and how many map options after it
 -- add a range; None if there is no `exactmap`

@@ -164,12 +164,12 @@ fn read_ranges(alloc: Global, text: &[u8]) -> Option<Result<Vec<CrashRange>, Mem
     let mut ranges = Ok(Vec::new(alloc));
     let mut rest = Some(text);
     while let Some(text) = rest {
-        let (text, behind) = next_part(text, Separators::Byte(b','));
+        let (text, after) = next_part(text, Separators::Byte(b','));
         let Some(range) = read_range(text) else {
             return None;
         };
         append_item(&Some(range), &mut ranges);
-        rest = behind;
+        rest = after;
     }
     Some(ranges)
 }

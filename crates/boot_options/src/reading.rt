@@ -78,7 +78,7 @@ pub fn read_option_words(alloc: Global, line: &[u8]) -> Result<Reading, OptionFa
     };
     let mut rest = line;
     let mut number: u32 = 1;
-    while let Some((word, behind)) = next_word(rest, Separators::CommandLine) {
+    while let Some((word, after)) = next_word(rest, Separators::CommandLine) {
         let word = unquote(word);
         if word == b"--".as_slice() {
             return Ok(reading);
@@ -86,7 +86,7 @@ pub fn read_option_words(alloc: Global, line: &[u8]) -> Result<Reading, OptionFa
         if let Err(fault) = read_word(alloc, word, number, &mut reading) {
             return Err(fault);
         }
-        rest = behind;
+        rest = after;
         number += 1;
     }
     Ok(reading)
@@ -160,12 +160,12 @@ fn read_memmap(value: &[u8], number: u32, reading: &mut Reading) -> Result<(), O
 {
     let mut rest = Some(value);
     while let Some(text) = rest {
-        let (text, behind) = next_part(text, Separators::Byte(b','));
+        let (text, after) = next_part(text, Separators::Byte(b','));
         let Some(option) = read_map_option(text) else {
             return Err(OptionFault::BadMemmap { word: number });
         };
         add_map_option(&option, number, reading);
-        rest = behind;
+        rest = after;
     }
     Ok(())
 }

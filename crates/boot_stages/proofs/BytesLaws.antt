@@ -18,6 +18,6 @@ holds-on fills old new kernel follows holds =
 
 -- the bytes still have the values that the items and the fills give them, in any memblock that
 -- continues `old`
-pub holds-behind : (fills : List Fill) (old new : MemblockView) → ContinuesMemblock old new → HasBytesOfHistory fills old
+pub holds-after : (fills : List Fill) (old new : MemblockView) → ContinuesMemblock old new → HasBytesOfHistory fills old
     → HasBytesOfHistory fills new
-holds-behind fills old new goes holds = holds-on fills old new goes.kernel goes.bytes holds
+holds-after fills old new goes holds = holds-on fills old new goes.kernel goes.bytes holds

@@ -138,14 +138,14 @@ last_begun : (items : List Item) (i : Item) → HasFirstItem (items ++ i ∷ [])
 last_begun [] i = tt
 last_begun (j ∷ is) i = tt
 
-behind_begun : (first : ChangeEffect) (r : Option RefusedGrowth) (i : Item) (old new : List Item) → first.refused ≡ r
+after_begun : (first : ChangeEffect) (r : Option RefusedGrowth) (i : Item) (old new : List Item) → first.refused ≡ r
     → (followed_by first r (write_item i (items_after_change old first))).refused ≡ None
     → new ≡ items_after_change old (followed_by first r (write_item i (items_after_change old first))) → HasFirstItem new
-behind_begun first None i old new is unrefused same =
+after_begun first None i old new is unrefused same =
     let last = same ∙ ap (λ (t : List Item). old ++ t) (items_of_steps-append first.steps ((i ∷ []) ∷ []))
     ∙ sym (append_assoc old (items_of_steps first.steps) (i ∷ [])) in
     subst HasFirstItem (sym last) (last_begun (old ++ items_of_steps first.steps) i)
-behind_begun first (Some refused) i old new is unrefused same = let clash : Some refused ≡ None = sym is ∙ unrefused in absurd (cc)
+after_begun first (Some refused) i old new is unrefused same = let clash : Some refused ≡ None = sym is ∙ unrefused in absurd (cc)
 
 pub claim-begun : (x : Unit {0}) (old new : List Item) (range : RangeView) (who : Owner)
     → EndsAsChange (Ok x) old new (claim_range range who)
@@ -153,4 +153,4 @@ pub claim-begun : (x : Unit {0}) (old new : List Item) (range : RangeView) (who 
 unfolding claim_range
 claim-begun x old new range who ends =
     let growth : Change = make_table_room which.Reserved (count_uncovered_pieces which.Reserved range) (reserved_growth range) in
-    behind_begun (growth old) (growth old).refused (item.Claim range who) old new refl ends.0 ends.1
+    after_begun (growth old) (growth old).refused (item.Claim range who) old new refl ends.0 ends.1

@@ -25,8 +25,8 @@ abbrev placed_of : RootsView → List Placed → SectionPlaces
 placed_of table placed = record { roots = table; placed = placed }
 
 -- the rest of the stage once the roots are placed: the section maps
-abbrev behind_roots : List Section → RootsView → StageStep StageCause SectionPlaces
-behind_roots sections table = place_maps sections >>= λ placed. return_value (placed_of table placed)
+abbrev after_roots : List Section → RootsView → StageStep StageCause SectionPlaces
+after_roots sections table = place_maps sections >>= λ placed. return_value (placed_of table placed)
 
 abbrev sections_in : List Item → List Section
 sections_in items = present (memory_of items)
@@ -57,7 +57,7 @@ module _ (width : Width) where
         → EndsAsStage (place_present_sections width) error_of_stage_cause (places_view r) old new
     places-first e exits ends =
         rw exits (from_present (Err e) old new sections is
-        (ends-first e error_of_stage_cause old new (place_roots width sections) (behind_roots sections) ends))
+        (ends-first e error_of_stage_cause old new (place_roots width sections) (after_roots sections) ends))
 
     pub places-second : (e : StageStop) (mid : List Item) (table : RootsView) → r ≡ Err e
         → EndsAsStage (place_roots width sections) error_of_stage_cause (Ok table) old mid
@@ -65,7 +65,7 @@ module _ (width : Width) where
         → EndsAsStage (place_present_sections width) error_of_stage_cause (places_view r) old new
     places-second e mid table exits first ends =
         rw exits (from_present (Err e) old new sections is
-        (ends-second table (Err e) error_of_stage_cause old mid new (place_roots width sections) (behind_roots sections) first
+        (ends-second table (Err e) error_of_stage_cause old mid new (place_roots width sections) (after_roots sections) first
         (ends-first e error_of_stage_cause mid new (place_maps sections) (λ placed. return_value (placed_of table placed)) ends)))
 
   pub places-all : (old mid new : List Item) (sections : List Section) (table : RootsView) (placed : List Placed)
@@ -75,6 +75,6 @@ module _ (width : Width) where
   places-all old mid new sections table placed present_is first ends =
       from_present (Ok (placed_of table placed)) old new sections present_is
       (ends-second table (Ok (placed_of table placed)) error_of_stage_cause old mid new (place_roots width sections)
-      (behind_roots sections) first
+      (after_roots sections) first
       (ends-second placed (Ok (placed_of table placed)) error_of_stage_cause mid new new (place_maps sections)
       (λ p. return_value (placed_of table p)) ends (refl, refl)))

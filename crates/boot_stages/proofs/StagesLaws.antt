@@ -24,7 +24,7 @@ use Rattle.boot_model.specs.Boot.{InputsView, BootSoFar, Stage, begin_with_map, 
 use Rattle.boot_model.specs.Stages.{run_each_stage}
 use Rattle.boot_model.specs.Stop.{stop_of_error, stop_of}
 use Rattle.boot_stages.specs.Boots.{HasBytesOfHistory, made_after_lines}
-use Rattle.boot_stages.proofs.BytesLaws.{holds-behind}
+use Rattle.boot_stages.proofs.BytesLaws.{holds-after}
 
 -- memory whose nodes lie below one limit has them below every greater limit
 pub noded-within : (near far : ℕ) (f : Labels) → IsMemoryWithNodes near f → near ≤ far → IsMemoryWithNodes far f
@@ -102,7 +102,7 @@ module _ {inputs : InputsView} {map : List (RunOf ℕ)} {stages : List Stage} {b
     fills = row.fills;
     come = one-more s (made_after_lines later n ids row.fills answers) (goes row.fills);
     kernel = goes_on.kernel ∙ row.kernel;
-    holds = holds-behind row.fills m n goes_on row.holds;
+    holds = holds-after row.fills m n goes_on row.holds;
   }
 
   -- lines of the early script have run

@@ -115,10 +115,10 @@ pub fn run_stages(
     let added = memory_bytes_of_map(map, inputs.reach());
     let crash = reserve_by(memblock, extra.profile.crash, added, &inputs.options.crash)?;
     let mut answers = Vec::new(alloc);
-    let (before, behind) = split_at_sections(&inputs.lines);
+    let (before, after) = split_at_sections(&inputs.lines);
     run_script_lines(&mut live, memblock, before, &mut answers)?;
     let (roots, placed) = place_sections(alloc, memblock, inputs.width)?;
-    run_script_lines(&mut live, memblock, behind, &mut answers)?;
+    run_script_lines(&mut live, memblock, after, &mut answers)?;
     Ok(LaterResults {
         nodes,
         crash,

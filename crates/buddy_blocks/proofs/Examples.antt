@@ -71,7 +71,7 @@ pair_is_run = record {
   before = λ x next same.
       let on = cond_some (nat_le 4 x && nat_lt x 6) 7 7 same in
       absurd (grind (arith, nat_tests, on.0));
-  behind = λ same. cc same;
+  after = λ same. cc same;
 }
 
 fit_examples : SetFits 4 6 5 2 × (SetFits 4 6 5 4 → ⊥)

@@ -7,7 +7,7 @@ use Rattle.bm_base.specs.Zones.{zone_of}
 use Rattle.address_runs.specs.Runs.{RunOf, run_end, value_at, AreRuns}
 use Rattle.address_runs.specs.Sweep.{StartAtOrPast, FirstEndsPast, IsRestFrom}
 use Rattle.address_runs.specs.Edits.{IsEmptyFrom}
-use Rattle.address_runs.proofs.RunsLaws.{inside, behind, none_below, rest_from, another_value_at_run_end, start_zero}
+use Rattle.address_runs.proofs.RunsLaws.{inside, past_end, none_below, rest_from, another_value_at_run_end, start_zero}
 use Rattle.buddy_blocks.specs.declared.block.Block.{Block}
 use Rattle.buddy_blocks.specs.Frames.{Frames}
 use Rattle.buddy_blocks.specs.BlockList.{block_of, block_for, block_around, blocks_from, blocks_of}
@@ -16,8 +16,8 @@ use Rattle.buddy_blocks.specs.Sets.{IsWholeNodeRun, SetFits, IsGreatestFittingOr
 use Rattle.buddy_blocks.proofs.ListLaws.{from-append, from-none, not_first-bare}
 use Rattle.buddy_blocks.proofs.RunLaws.{found}
 
-pub value_behind : (r : RunOf ℕ) (rs : List (RunOf ℕ)) (x : ℕ) → run_end r ≤ x → value_at (r ∷ rs) x ≡ value_at rs x
-value_behind r rs x h = rw (behind r x h) refl
+pub value_after : (r : RunOf ℕ) (rs : List (RunOf ℕ)) (x : ℕ) → run_end r ≤ x → value_at (r ∷ rs) x ≡ value_at rs x
+value_after r rs x h = rw (past_end r x h) refl
 
 pub value_inside : (r : RunOf ℕ) (rs : List (RunOf ℕ)) (x : ℕ) → r.base ≤ x → x < run_end r → value_at (r ∷ rs) x ≡ Some r.value
 value_inside r rs x above below = rw (inside r x above below) refl
@@ -41,7 +41,7 @@ run_of_list [] i d runs few = absurd (omega arith)
 run_of_list (r ∷ rs) zero d runs few = record {
   inside = λ x above below. value_inside r rs x above below;
   before = λ x next same. absurd (cc (sym same ∙ none_below r.base x (r ∷ rs) runs (omega arith) (omega arith)));
-  behind = λ same. another_value_at_run_end r rs runs (sym (value_behind r rs (run_end r) (omega arith)) ∙ same);
+  after = λ same. another_value_at_run_end r rs runs (sym (value_after r rs (run_end r) (omega arith)) ∙ same);
 }
 run_of_list (q ∷ rs) (suc i) d runs few =
     let r : RunOf ℕ = get_or rs i d in
@@ -49,16 +49,16 @@ run_of_list (q ∷ rs) (suc i) d runs few =
     let some : 0 < r.size = some_size rs i d runs.2 (omega arith) in
     let after : run_end q ≤ r.base = all_start (run_end q) rs i d runs.2 (rest_from q rs runs) (omega arith) in
     record {
-      inside = λ x above below. value_behind q rs x (omega arith) ∙ rest.inside x above below;
+      inside = λ x above below. value_after q rs x (omega arith) ∙ rest.inside x above below;
       before = λ x next same. elim (cases_lt x (run_end q)) as (λ _. ⊥) [
         | inl lt ↦
             let touch : run_end q ≡ r.base = omega arith in
             let first : value_at rs r.base ≡ Some r.value = rest.inside r.base (omega arith) (omega arith) in
             let last : value_at (q ∷ rs) x ≡ Some q.value = value_inside q rs x (omega (arith, runs.0)) lt in
             another_value_at_run_end q rs runs (ap (value_at rs) touch ∙ first ∙ sym same ∙ last)
-        | inr ge ↦ rest.before x next (sym (value_behind q rs x ge) ∙ same)
+        | inr ge ↦ rest.before x next (sym (value_after q rs x ge) ∙ same)
       ];
-      behind = λ same. rest.behind (sym (value_behind q rs (run_end r) (omega arith)) ∙ same);
+      after = λ same. rest.after (sym (value_after q rs (run_end r) (omega arith)) ∙ same);
     }
 
 -- the run that a look-up finds has the frame if it begins at or below it; else no run has the
@@ -95,13 +95,13 @@ pub listed : Frames → List (RunOf ℕ) → List Block
 listed f [] = []
 listed f (r ∷ rs) = blocks_from f r.base r.size ++ listed f rs
 
-nothing_behind : (b : ℕ) (r : RunOf ℕ) (rs : List (RunOf ℕ)) → AreRuns (r ∷ rs) → IsEmptyFrom b (value_at (r ∷ rs))
+nothing_after : (b : ℕ) (r : RunOf ℕ) (rs : List (RunOf ℕ)) → AreRuns (r ∷ rs) → IsEmptyFrom b (value_at (r ∷ rs))
     → (run_end r ≤ b) × IsEmptyFrom b (value_at rs)
-nothing_behind b r rs runs none =
+nothing_after b r rs runs none =
     let some : 0 < r.size = runs.0 in
     let low : run_end r ≤ b = le_of_suc-le-suc (lt_of_not-le (λ lt.
     let last : value_at (r ∷ rs) (run_end r - 1) ≡ Some r.value = value_inside r rs (run_end r - 1) (omega arith) (omega arith) in
-    cc (sym last ∙ none (run_end r - 1) (omega arith)))) in (low, λ x high. sym (value_behind r rs x (omega arith)) ∙ none x high)
+    cc (sym last ∙ none (run_end r - 1) (omega arith)))) in (low, λ x high. sym (value_after r rs x (omega arith)) ∙ none x high)
 
 -- the blocks of the runs are the blocks of all free frames
 listed_from : (f : Frames) (b at : ℕ) (rs : List (RunOf ℕ)) → AreRuns rs → StartAtOrPast at rs → IsEmptyFrom b (value_at rs) → at ≤ b
@@ -110,7 +110,7 @@ unfolding listed
 listed_from f b at [] runs start none low same =
     from-none f at (b - at) (λ y above below. not_first-bare f y (same y above))
 listed_from f b at (r ∷ rs) runs start none low same =
-    let ends = nothing_behind b r rs runs none in
+    let ends = nothing_after b r rs runs none in
     let gap : ℕ = r.base - at in
     let left : ℕ = b - run_end r in
     let parts : b - at ≡ gap + (r.size + left) = omega (arith, ends.0) in
@@ -120,7 +120,7 @@ listed_from f b at (r ∷ rs) runs start none low same =
     ∙ none_below r.base y (r ∷ rs) runs (omega arith) (omega arith))) in
     let rest : blocks_from f (run_end r) left ≡ listed f rs =
     listed_from f b (run_end r) rs runs.2 (rest_from r rs runs) ends.1 ends.0
-    (λ x above. same x (omega arith) ∙ value_behind r rs x above) in
+    (λ x above. same x (omega arith) ∙ value_after r rs x above) in
     ap (λ n. blocks_from f at n) parts ∙ from-append f at gap (r.size + left)
     ∙ ap (λ (bs : List Block). bs ++ blocks_from f (at + gap) (r.size + left)) bare
     ∙ ap (λ y. blocks_from f y (r.size + left)) there ∙ from-append f r.base r.size left

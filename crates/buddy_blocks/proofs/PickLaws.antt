@@ -34,10 +34,10 @@ record IsFound (p : Block → Bool) (bs : List Block) (b : Block) : Type 0 where
   pub passes : p b ≡ true
   pub first : (c : Block) → ListsBlock bs c → p c ≡ true → b.first ≤ c.first
 
-pub ascend_behind : (x : ℕ) (bs : List Block) (c : Block) → AscendFrom x bs → ListsBlock bs c → x ≤ c.first
-ascend_behind x [] c ascend has = absurd has
-ascend_behind x (b ∷ bs) c ascend (inl same) = omega (arith, ap (λ (d : Block). d.first) same, ascend.0)
-ascend_behind x (b ∷ bs) c ascend (inr rest) = omega (arith, ascend_behind (b.first + 1) bs c ascend.1 rest, ascend.0)
+pub ascend_after : (x : ℕ) (bs : List Block) (c : Block) → AscendFrom x bs → ListsBlock bs c → x ≤ c.first
+ascend_after x [] c ascend has = absurd has
+ascend_after x (b ∷ bs) c ascend (inl same) = omega (arith, ap (λ (d : Block). d.first) same, ascend.0)
+ascend_after x (b ∷ bs) c ascend (inr rest) = omega (arith, ascend_after (b.first + 1) bs c ascend.1 rest, ascend.0)
 
 found_in : (p : Block → Bool) (x : ℕ) (bs : List Block) (b : Block) → AscendFrom x bs → find p bs ≡ Some b → IsFound p bs b
 found_in p x [] b ascend is = cc
@@ -51,7 +51,7 @@ found_in p x (c ∷ cs) b ascend is =
             first = λ d has passes. ⊎_elim
                 (λ (same : c ≡ d). omega (arith, ap (λ (e : Block). e.first) (sym here ∙ same)))
                 (λ (rest : ListsBlock cs d).
-                omega (arith, ascend_behind (c.first + 1) cs d ascend.1 rest, ap (λ (e : Block). e.first) here))
+                omega (arith, ascend_after (c.first + 1) cs d ascend.1 rest, ap (λ (e : Block). e.first) here))
                 has;
           }
       | inr off ↦

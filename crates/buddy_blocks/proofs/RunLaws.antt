@@ -28,7 +28,7 @@ inside_free f first end n o x run above below free =
       above = le_of_suc-le-suc (lt_of_not-le (λ lt.
           let next : suc (first - 1) ≡ first = omega arith in
           run.before (first - 1) next (free (first - 1) (in_set (2 ^ o) x (first - 1) (omega arith) (omega arith)))));
-      below = le_of_suc-le-suc (lt_of_not-le (λ lt. run.behind (free end (in_set (2 ^ o) x end (omega arith) lt))));
+      below = le_of_suc-le-suc (lt_of_not-le (λ lt. run.after (free end (in_set (2 ^ o) x end (omega arith) lt))));
     }
 
 -- the largest set that fits is the block that is found

@@ -10,7 +10,7 @@ use Rattle.buddy_blocks.specs.Rows.{row_end}
 pub record IsWholeNodeRun (f : Frames) (first end n : ℕ) : Type 0 where
   pub inside : (x : ℕ) → first ≤ x → x < end → f x ≡ Some n
   pub before : (x : ℕ) → suc x ≡ first → f x ≢ Some n
-  pub behind : f end ≢ Some n
+  pub after : f end ≢ Some n
 
 -- the aligned set of `s` frames that has `frame` lies in the frames from `first` to below `end`
 pub record SetFits (first end frame s : ℕ) : Type 0 where

@@ -213,8 +213,8 @@ impl Buddy {
             return Err(Take::NoBlock);
         };
         self.ready(MAX_NEW_ENTRIES)?;
-        let behind = self.block_of(set_around(block.order, block.first).end());
-        let rest = index_after_alloc(areas, &block, behind, order);
+        let after = self.block_of(set_around(block.order, block.first).end());
+        let rest = index_after_alloc(areas, &block, after, order);
         remove_frames(&mut self.runs, &set_around(order, block.first));
         self.spare -= MAX_NEW_ENTRIES;
         self.areas = rest;

@@ -11,23 +11,23 @@ use buddy_blocks::{Block, MAX_FRAMES};
 use free_areas::Areas;
 
 /// Returns the index after the first `2^order` frames of `block` were allocated, or `None` if
-/// there is no memory for it. `behind` must be the block that begins where `block` ends, or `None`
+/// there is no memory for it. `after` must be the block that begins where `block` ends, or `None`
 /// if the frame there isn't free.
 pub fn index_after_alloc(
     areas: Areas,
     block: &Block,
-    behind: Option<Block>,
+    after: Option<Block>,
     order: u32,
 ) -> Option<Areas>
     requires small { block.now.order ≤ 10 }
     requires low { block.now.first < MAX_FRAMES }
     ensures { IfSome result (λ rest. (f g : Frames) → IndexesFreeBlocks f areas
         → RemovesFrameSet f g order block.now.first → IsBlock f block.now →
-        order ≤ block.now.order → behind ≡ block_of f (block.now.first + 2 ^ block.now.order)
+        order ≤ block.now.order → after ≡ block_of f (block.now.first + 2 ^ block.now.order)
         → IndexesFreeBlocks g rest) }
 {
     let mut areas = areas;
-    match areas.split_block(block, behind, order, block.first) {
+    match areas.split_block(block, after, order, block.first) {
         Ok(()) => Some(areas),
         Err(_) => None,
     }

@@ -29,7 +29,7 @@ first f (item.Claim range owner) items x who has none =
           inr (record {
             before = [];
             range = range;
-            behind = items;
+            after = items;
             recorded = ap (λ (o : Owner). item.Claim range o ∷ items) same;
             covered = inside;
             stands = none;
@@ -51,7 +51,7 @@ comes_from f (i ∷ items) x who has = elim (comes_from (owners_after f i) items
       inr (record {
         before = i ∷ known.before;
         range = known.range;
-        behind = known.behind;
+        after = known.after;
         recorded = ap (λ (js : List Item). i ∷ js) known.recorded;
         covered = known.covered;
         stands = known.stands;

@@ -10,7 +10,7 @@ use Rattle.buddy_blocks.specs.Frames.{Frames, IsBlock, IsInBlock, IsInSet}
 use Rattle.buddy_blocks.specs.BlockList.{AscendFrom, ListsBlock, block_around, block_for, block_of, blocks_of, greatest_free_order}
 use Rattle.buddy_blocks.proofs.BlockLaws.{block_found, found_block, listed_ascends, listed_complete, listed_sound}
 use Rattle.buddy_blocks.proofs.SetLaws.{in_set, set_from, set_until}
-use Rattle.buddy_blocks.proofs.PickLaws.{ascend_behind}
+use Rattle.buddy_blocks.proofs.PickLaws.{ascend_after}
 use Rattle.memblock_frames.proofs.TakeLaws.{both_tests, tests_both}
 use Rattle.conservation.specs.Headline.{has_frame, count_blocks_with, block_with_buddy}
 
@@ -48,13 +48,13 @@ one_counted : (p : Block → Bool) (b : Block) (from : ℕ) (bs : List Block) �
 one_counted p b from [] ascend listed holds only = absurd listed
 one_counted p b from (c ∷ cs) ascend (inl same) holds only =
     counted p c cs true (ap p same ∙ holds) ∙ ap (λ n. 1 + n) (none_counted p cs (λ d in_rest. false_from_ne_true (p d) (λ passes.
-    (let behind = ascend_behind (c.first + 1) cs d ascend.1 in_rest in
+    (let after = ascend_after (c.first + 1) cs d ascend.1 in_rest in
     let first = ap (λ (e : Block). e.first) (only d (inr in_rest) passes ∙ sym same) in
-    omega (arith, behind, first)))))
+    omega (arith, after, first)))))
 one_counted p b from (c ∷ cs) ascend (inr in_rest) holds only =
-    let behind = ascend_behind (c.first + 1) cs b ascend.1 in_rest in
+    let after = ascend_after (c.first + 1) cs b ascend.1 in_rest in
     let fails : p c ≡ false = false_from_ne_true (p c) (λ passes.
-    (let first = ap (λ (e : Block). e.first) (only c (inl refl) passes) in omega (arith, behind, first))) in
+    (let first = ap (λ (e : Block). e.first) (only c (inl refl) passes) in omega (arith, after, first))) in
     counted p c cs false fails
     ∙ ap (λ n. 0 + n) (one_counted p b (c.first + 1) cs ascend.1 in_rest holds (λ d listed. only d (inr listed)))
 

@@ -39,7 +39,7 @@ five_recorded : IsRecorded journal 0x5800 owner.Kernel
 five_recorded = record {
   before = item.Claim byte_of_four (owner.Script 3) ∷ [];
   range = byte_of_five;
-  behind = item.Free byte_of_four ∷ [];
+  after = item.Free byte_of_four ∷ [];
   recorded = refl;
   covered = refl;
   stands = refl;

@@ -19,10 +19,10 @@ decides_owner i x = false
 pub record IsRecorded (items : List Item) (x : ℕ) (who : Owner) : Type 0 where
   pub before : List Item
   pub range : RangeView
-  pub behind : List Item
-  pub recorded : items ≡ before ++ (item.Claim range who ∷ behind)
+  pub after : List Item
+  pub recorded : items ≡ before ++ (item.Claim range who ∷ after)
   pub covered : covers range x ≡ true
-  pub stands : list_any (λ i. decides_owner i x) behind ≡ false
+  pub stands : list_any (λ i. decides_owner i x) after ≡ false
 
 -- a claim touches the frame: some byte of it has an owner, and the journal has the claim for that
 -- owner

@@ -7,7 +7,7 @@ use Rattle.bm_base.specs.Range.{RangeView, covers}
 use Rattle.bm_base.specs.Each.{each_from, each_in}
 use Rattle.address_runs.specs.Runs.{RunOf, value_at, AreRuns}
 use Rattle.address_runs.specs.Edits.{IsEmptyFrom}
-use Rattle.address_runs.proofs.RunsLaws.{behind}
+use Rattle.address_runs.proofs.RunsLaws.{past_end}
 use Rattle.memblock_model.specs.declared.item.Item.{Item}
 use Rattle.memblock_model.specs.declared.item.Item.TheVariants as item
 use Rattle.memblock_model.specs.declared.owner.Owner.TheVariants as owner
@@ -45,16 +45,16 @@ are_runs = (
   ),
 )
 
-nothing_behind : IsEmptyFrom (2 ^ 64) (value_at two_nodes)
-nothing_behind x le =
+nothing_after : IsEmptyFrom (2 ^ 64) (value_at two_nodes)
+nothing_after x le =
     rw (
-      behind (record { base = 0x1000; size = 0x9F000; value = plain_label }) x (omega arith),
-      behind (record { base = 0x100000; size = 0x80000; value = with_node (Some 0) plain_label }) x (omega arith),
-      behind (record { base = 0x180000; size = 0x80002; value = with_node (Some 1) plain_label }) x (omega arith),
+      past_end (record { base = 0x1000; size = 0x9F000; value = plain_label }) x (omega arith),
+      past_end (record { base = 0x100000; size = 0x80000; value = with_node (Some 0) plain_label }) x (omega arith),
+      past_end (record { base = 0x180000; size = 0x80002; value = with_node (Some 1) plain_label }) x (omega arith),
     ) refl
 
 counted : memory_bytes (value_at two_nodes) ≡ 0x19F002
-counted = runs-bytes two_nodes are_runs nothing_behind
+counted = runs-bytes two_nodes are_runs nothing_after
 
 -- the start of a range is in it, its end isn't
 abbrev middle : CrashRange

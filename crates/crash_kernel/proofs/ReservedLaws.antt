@@ -79,9 +79,9 @@ idle-ok a told old new f h is =
     let same : a ≡ told = cc (sym h.0 ∙ ap (λ (t : StepEffect RefusedGrowth Crash). t.answer) is) in rw same refl
 
 -- a list of steps with a step in its middle isn't empty
-some-step : (before behind : List (List Item)) (one : List Item) → (before ++ one ∷ []) ++ behind ≢ []
-some-step [] behind one = λ is. cc
-some-step (s ∷ ss) behind one = λ is. cc
+some-step : (before after : List (List Item)) (one : List Item) → (before ++ one ∷ []) ++ after ≢ []
+some-step [] after one = λ is. cc
+some-step (s ∷ ss) after one = λ is. cc
 
 -- a change that ends with a written item has a step
 writes : (told : Crash) (items : List Item) (first : ChangeEffect) (refused : Option RefusedGrowth) (i : Item)

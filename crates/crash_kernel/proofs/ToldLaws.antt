@@ -172,15 +172,15 @@ main_told request asked items area main low None asks is h = absurd (unplaced_to
 main_told request asked items area main low (Some m) asks is h =
     let next : Unit {0} → StageStep RefusedGrowth Crash = λ done.
     if needs_low_part m (low_size asked) then reserve_low_part m (low_size asked) else return_value (crash.At m None) in
-    let behind = needs_told asked items m main low (needs_low_part m (low_size asked)) refl
+    let after = needs_told asked items m main low (needs_low_part m (low_size asked)) refl
     (change_told (claim_range m owner.Crash) items next (crash.At main low) h) in
     let known = main_found items area.size area.placement m is in
-    rw (← behind.1) (record {
+    rw (← after.1) (record {
       placement = area.placement;
       size = rw known.sized asks;
       free = known.free;
       aligned = known.aligned;
-      low_part = behind.0;
+      low_part = after.0;
     })
 
 area_told : (asked : CrashOptionView) (items : List Item) (main : RangeView) (low : Option RangeView) (request : Option AreaRequest)

@@ -6,7 +6,7 @@ use Rattle.std.proofs.lemmas.List.Sums.{sum_by-cons}
 use Rattle.address_runs.specs.Runs.{RunOf, run_end, lies_in, value_at, AreRuns}
 use Rattle.address_runs.specs.Edits.{IsEmptyFrom}
 use Rattle.address_runs.specs.Sweep.{StartAtOrPast}
-use Rattle.address_runs.proofs.RunsLaws.{inside, behind, none_below, rest_from, start_zero}
+use Rattle.address_runs.proofs.RunsLaws.{inside, past_end, none_below, rest_from, start_zero}
 use Rattle.e820_model.specs.Usable.{count_below}
 use Rattle.e820_model.proofs.UsableLaws.{count_same, count_none, count_either, count_interval}
 use Rattle.memblock_model.specs.declared.owner.Which.TheVariants as which
@@ -45,7 +45,7 @@ module _ {X : Type 0} where
   ]
 
   rest_by : (n : ℕ) (r : RunOf X) (rs : List (RunOf X)) → run_end r ≤ n → IsEmptyFrom n (value_at (r ∷ rs)) → IsEmptyFrom n (value_at rs)
-  rest_by n r rs ends none x le = rw (behind r x (omega arith)) at (none x le)
+  rest_by n r rs ends none x le = rw (past_end r x (omega arith)) at (none x le)
 
   -- an address in the first run is in no other
   first_alone : (r : RunOf X) (rs : List (RunOf X)) (x : ℕ) → AreRuns (r ∷ rs) → lies_in r x ≡ true → is_some (value_at rs x) ≡ false

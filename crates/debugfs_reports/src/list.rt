@@ -30,11 +30,11 @@ pub fn are_names_of(known: &[Report], list: &[u8]) -> bool
 {
     let mut rest = Some(list);
     while let Some(text) = rest {
-        let (name, behind) = next_part(text, Separators::Byte(b','));
+        let (name, after) = next_part(text, Separators::Byte(b','));
         if first_report_named(known, name).is_none() {
             return false;
         }
-        rest = behind;
+        rest = after;
     }
     true
 }
@@ -63,11 +63,11 @@ pub fn reports_named_in(alloc: Global, known: &[Report], list: &[u8]) -> Result<
     let mut reports = Vec::new(alloc);
     let mut rest = Some(list);
     while let Some(text) = rest {
-        let (name, behind) = next_part(text, Separators::Byte(b','));
+        let (name, after) = next_part(text, Separators::Byte(b','));
         if let Some(report) = first_report_named(known, name) {
             reports.push(report)?;
         }
-        rest = behind;
+        rest = after;
     }
     Ok(reports)
 }

@@ -167,8 +167,8 @@ efi_wins =
 
 -- the EFI map is added after the edits: `memmap=exactmap` clears the firmware's table, but not the
 -- EFI map
-behind_the_edits : (entries more : List Entry) → final_claims entries more (edit.Clear ∷ []) efi 0x190000 3 ≡ true
-behind_the_edits entries more =
+after_the_edits : (entries more : List Entry) → final_claims entries more (edit.Clear ∷ []) efi 0x190000 3 ≡ true
+after_the_edits entries more =
     let acpi : type_of (union_of_claims no_claims (claims_of_entries efi)) 0x190000 ≡ 3 =
     greatest_is (union_of_claims no_claims (claims_of_entries efi) 0x190000) 3 (omega arith) (λ some. refl)
     (λ k higher small. grind (arith, nat_tests)) in

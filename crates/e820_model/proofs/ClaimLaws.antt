@@ -5,7 +5,7 @@ use Rattle.std.proofs.lemmas.Bool.Decides.{nat_tests}
 use Rattle.std.proofs.lemmas.Bool.{cases_lt, cases_Bool}
 use Rattle.std.proofs.Math.Bool.{or_assoc}
 use Rattle.address_runs.specs.Runs.{RunOf, DecidesEquality, run_end, lies_in, value_at, AreRuns, IsRunsOf}
-use Rattle.address_runs.proofs.RunsLaws.{inside, behind, none_below, rest_from, runs_of_are_runs, runs_of_function_are_equal}
+use Rattle.address_runs.proofs.RunsLaws.{inside, past_end, none_below, rest_from, runs_of_are_runs, runs_of_function_are_equal}
 use Rattle.e820_model.specs.Claims.{Types, Claims, greatest_below, greatest_type, type_of, settled_claims, union_of_claims, claims_of_entries, after_edits, zero_page_claims, with_extension, after_bios_trim, final_claims}
 use Rattle.e820_model.specs.Map.{type_unless_zero, kinds, same_kind, map_of, claims_of, AreValidClaims}
 use Rattle.e820_model.specs.declared.entry.Entry.{Entry}
@@ -201,7 +201,7 @@ are_append (r ∷ rs) ss first second = (first.0, first.1, first.2, first.3, are
 pub top_past : (rs : List (RunOf ℕ)) (x : ℕ) → AreValidClaims rs → 2 ^ 64 - 1 ≤ x → top rs x ≡ 0
 top_past [] x claims far = refl
 top_past (r ∷ rs) x claims far =
-    let past : lies_in r x ≡ false = behind r x (omega arith) in
+    let past : lies_in r x ≡ false = past_end r x (omega arith) in
     rw (past, top_past rs x claims.4 far) (omega arith)
 
 pub none_past : (rs : List (RunOf ℕ)) (x : ℕ) → AreValidClaims rs → 2 ^ 64 - 1 ≤ x → kinds (claims_of rs) x ≡ None
@@ -269,7 +269,7 @@ value_rest : (r : RunOf ℕ) (rs : List (RunOf ℕ)) (x k : ℕ) → AreRuns (r 
 value_rest r rs x k runs found =
     elim (cases_lt x (run_end r)) as (λ _. value_at (r ∷ rs) x ≡ Some k) [
       | inl lt ↦ absurd (cc (found, none_below (run_end r) x rs runs.2 (rest_from r rs runs) lt))
-      | inr ge ↦ rw (behind r x ge) found
+      | inr ge ↦ rw (past_end r x ge) found
     ]
 
 -- the runs of a map, read as claims, are the settled claims

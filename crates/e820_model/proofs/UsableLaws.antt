@@ -119,7 +119,7 @@ split_frame p q gap frame apart =
     let either : ℕ → Bool = λ x. p x || q x in
     let goal : Type 0 = all_bytes either frame ≡ (all_bytes p frame || all_bytes q frame) in
     elim (cases_lt gap (4096 * frame)) as (λ _. goal) [
-      | inl behind ↦
+      | inl after ↦
           (let each : (x : ℕ) → 4096 * frame ≤ x → x < 4096 * frame + 4096 → either x ≡ q x =
           λ x low high. (let none : p x ≡ false = apart.below x (omega arith) in rw none refl) in
           let none : all_bytes p frame ≡ false =
@@ -153,7 +153,7 @@ count_split p q gap n apart =
     let first : p (4096 * frame) ≡ true = all_bytes-each p frame whole (4096 * frame) (omega arith) (omega arith) in
     elim (cases_lt (4096 * frame) gap) as (λ _. all_bytes q frame ≡ false) [
       | inl before ↦ all_bytes-fails q frame (4096 * frame) (omega arith) (omega arith) (apart.above (4096 * frame) (omega arith))
-      | inr behind ↦ absurd (both_ways (p (4096 * frame)) (apart.below (4096 * frame) behind) first)
+      | inr after ↦ absurd (both_ways (p (4096 * frame)) (apart.below (4096 * frame) after) first)
     ])
 
 -- usable frames, as frames all of whose bytes are memory

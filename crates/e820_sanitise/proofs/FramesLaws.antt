@@ -83,7 +83,7 @@ memory_apart from until r rs memory x =
 -- the address after the stretch is a gap between the stretch and the runs that follow
 pub stretch_gap : (from until : ℕ) (r : RunOf ℕ) (rs : List (RunOf ℕ)) → Ascend (r ∷ rs) → until < r.base
     → IsGap (λ x. nat_le from x && nat_lt x until) (memory_after r.base (run_end r) rs) until
-stretch_gap from until r rs runs behind = record {
+stretch_gap from until r rs runs after = record {
   below = λ x high. grind (arith, nat_tests);
   above = λ x low.
       let nothing : value_at rs x ≡ None = none_before (run_end r) x rs runs.2 runs.1 (omega arith) in
@@ -136,11 +136,11 @@ frames_counted limit space [] from until order start runs =
     ∙ frames_same limit (λ x. nat_le from x && nat_lt x until) (memory_after from until []) (memory_last from until)
 frames_counted limit space (r ∷ rs) from until order start runs =
     let goal : Type 0 = frames_from limit from until (r ∷ rs) ≡ frames_of limit (memory_after from until (r ∷ rs)) in
-    let behind : StartAtOrPast (run_end r) rs = runs.1 in
+    let after : StartAtOrPast (run_end r) rs = runs.1 in
     elim (cases_Bool (is_memory (Some r.value))) as (λ _. goal) [
       | inr other ↦
           (let rest : frames_from limit from until rs ≡ frames_of limit (memory_after from until rs) =
-          frames_counted limit space rs from until order (start_earlier until (run_end r) rs (omega arith) behind) runs.2 in
+          frames_counted limit space rs from until order (start_earlier until (run_end r) rs (omega arith) after) runs.2 in
           let same : frames_of limit (memory_after from until (r ∷ rs)) ≡ frames_of limit (memory_after from until rs) =
           frames_same limit _ _ (memory_other from until r rs runs other) in
           rw other (rest ∙ sym same))
@@ -148,14 +148,14 @@ frames_counted limit space (r ∷ rs) from until order start runs =
         | inl touches ↦
             (let test : (r.base == until) ≡ true = grind (arith, nat_tests) in
             let rest : frames_from limit from (run_end r) rs ≡ frames_of limit (memory_after from (run_end r) rs) =
-            frames_counted limit space rs from (run_end r) (omega arith) behind runs.2 in
+            frames_counted limit space rs from (run_end r) (omega arith) after runs.2 in
             let same : frames_of limit (memory_after from until (r ∷ rs)) ≡ frames_of limit (memory_after from (run_end r) rs) =
             frames_same limit _ _ (memory_touching from until r rs order runs memory touches) in
             rw (memory, test) (rest ∙ sym same))
         | inr apart ↦
             (let test : (r.base == until) ≡ false = grind (arith, nat_tests) in
             let rest : frames_from limit r.base (run_end r) rs ≡ frames_of limit (memory_after r.base (run_end r) rs) =
-            frames_counted limit space rs r.base (run_end r) (omega arith) behind runs.2 in
+            frames_counted limit space rs r.base (run_end r) (omega arith) after runs.2 in
             let same : frames_of limit (memory_after from until (r ∷ rs))
             ≡ frames_of limit (λ x. (nat_le from x && nat_lt x until) || memory_after r.base (run_end r) rs x) =
             frames_same limit _ _ (memory_apart from until r rs memory) in

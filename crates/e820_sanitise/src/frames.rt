@@ -24,8 +24,8 @@ fn count_whole_frames(from: u64, until: u64) -> u64
     ensures few { FRAME_SIZE * result ≤ until - from }
 {
     let first = from.div_ceil(FRAME_SIZE);
-    let behind = until / FRAME_SIZE;
-    behind.saturating_sub(first)
+    let end = until / FRAME_SIZE;
+    end.saturating_sub(first)
 }
 
 /// Returns the number of usable frames of a map: frames of 4,096 bytes that lie wholly below

@@ -33,7 +33,7 @@ none_far : (start i n k : ℕ) (bytes : List ℕ) → far_entry_from start i n b
 none_far start i zero k bytes none from below = absurd (omega arith)
 none_far start i (suc n) k bytes none from below =
     none_step (is_entry_too_far (nth_entry start i bytes)) start i n k bytes refl none from below
-    (λ none_behind from_next below_end. none_far start (i + 1) n k bytes none_behind from_next below_end)
+    (λ none_after from_next below_end. none_far start (i + 1) n k bytes none_after from_next below_end)
 
 -- if none of the first n entries is too far, all of them end in the address space
 EntriesFit-first_entries : (start n : ℕ) (bytes : List ℕ) → ((k : ℕ) → k < n → is_entry_too_far (nth_entry start k bytes) ≡ false)

@@ -43,8 +43,8 @@ initrd_fault bytes = if is_initrd_far bytes then Some faults.InitrdTooFar else N
 -- the fault `EntryTooFar` with the index, or the second argument if no index is given. The second
 -- argument is the result of the test after that of the entries.
 abbrev pub zero_page_entry_fault : Option ℕ → Option ZeroFault → Option ZeroFault
-zero_page_entry_fault None behind = behind
-zero_page_entry_fault (Some index) behind = Some (faults.EntryTooFar index)
+zero_page_entry_fault None after = after
+zero_page_entry_fault (Some index) after = Some (faults.EntryTooFar index)
 
 -- the first fault of the bytes. The tests are, in this order: there are 4,096 bytes; at least two
 -- entries (`append_e820_table` refuses a table of fewer); at most 128 entries; no entry whose

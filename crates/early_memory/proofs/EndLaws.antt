@@ -5,7 +5,7 @@ use Rattle.std.proofs.Math.Nat.{le_antisymm}
 use Rattle.std.proofs.lemmas.Bool.{cases_lt, true≢false}
 use Rattle.address_runs.specs.Runs.{RunOf, run_end, value_at, AreRuns, IsRunsOf}
 use Rattle.address_runs.specs.Sweep.{StartAtOrPast}
-use Rattle.address_runs.proofs.RunsLaws.{inside, behind, rest_from, start_zero}
+use Rattle.address_runs.proofs.RunsLaws.{inside, past_end, rest_from, start_zero}
 use Rattle.e820_model.specs.Map.{TypeAt}
 use Rattle.e820_model.specs.Usable.{is_usable_frame, types_below}
 use Rattle.e820_model.proofs.UsableLaws.{memory_reached, is_usable_frame-each}
@@ -90,9 +90,9 @@ ends_at {X} from (r ∷ rs) runs start =
     let rest = ends_at (run_end r) rs runs.2 (rest_from r rs runs) in
     record {
       later = omega (arith, rest.later);
-      past = λ x past. rw (behind r x (omega (arith, rest.later, past))) (rest.past x past);
+      past = λ x past. rw (past_end r x (omega (arith, rest.later, past))) (rest.past x past);
       last = λ some. elim (cases_lt (run_end r) at) as (λ _. (v : X) × (value_at (r ∷ rs) (at - 1) ≡ Some v)) [
-        | inl more ↦ ((rest.last more).0, rw (behind r (at - 1) (omega (arith, more))) (rest.last more).1)
+        | inl more ↦ ((rest.last more).0, rw (past_end r (at - 1) (omega (arith, more))) (rest.last more).1)
         | inr none ↦
             (let sized = runs.0 in
             (r.value, rw (inside r (at - 1) (omega (arith, rest.later, sized)) (omega (arith, none, sized))) refl))

@@ -90,11 +90,11 @@ limited_when_memory_comes = (refl, refl, refl, refl)
 
 -- with an initrd and searches from below: the initrd is claimed first, then the limit is set, then
 -- the direction, and then memory is added
-direction_behind_the_limit : (owner_of (wanted initrd_range true 3) 0x7000000 ≡ Some owner.Initrd)
+direction_after_the_limit : (owner_of (wanted initrd_range true 3) 0x7000000 ≡ Some owner.Initrd)
     × (limit_of (wanted initrd_range true 4) ≡ 0x100000) × (upward_of (wanted initrd_range true 4) ≡ false)
     × (upward_of (wanted initrd_range true 5) ≡ true) × (memory_of (wanted initrd_range true 5) 0x100000 ≡ None)
     × (memory_of (wanted initrd_range true 6) 0x100000 ≡ Some plain_label)
-direction_behind_the_limit = (refl, refl, refl, refl, refl, refl)
+direction_after_the_limit = (refl, refl, refl, refl, refl, refl)
 
 -- without a map there is no memory, whatever is mirrored, and the first MiB is claimed
 -- nevertheless

@@ -38,11 +38,11 @@ NeedNone n m (item.Limit at ∷ is) = NeedNone n m is
 NeedNone n m (i ∷ is) = ⊥
 
 -- after an item the tables have at most these numbers of records
-behind : (i : Item) (items : List Item) (n m a b : ℕ) → HasFew items n m → RangeEndsInAddressSpace i
+after : (i : Item) (items : List Item) (n m a b : ℕ) → HasFew items n m → RangeEndsInAddressSpace i
     → ((w : Which) → room_after w (room_of w items) i ≡ 128)
     → length (records_for (table_after which.Reserved (table_of which.Reserved items) i)) ≤ a
     → length (records_for (table_after which.Memory (table_of which.Memory items) i)) ≤ b → HasFew (items ++ i ∷ []) a b
-behind i items n m a b few small rooms reserved memory = record {
+after i items n m a b few small rooms reserved memory = record {
   reserved = subst (λ (f : Labels). length (records_for f) ≤ a) (sym (table_of-push which.Reserved items i)) reserved;
   memory = subst (λ (f : Labels). length (records_for f) ≤ b) (sym (table_of-push which.Memory items i)) memory;
   rooms = λ w. room_of-push w items i ∙ rooms w;
@@ -76,19 +76,19 @@ few_carried (item.Claim range who ∷ is) items n m few need =
     let known =
     covers_few which.Reserved range items n need.0 need.1 (few.rooms which.Reserved) (few.within which.Reserved) few.reserved in
     goes i is items (claim_range-idle items range who known.0) (few_carried is (items ++ i ∷ []) (2 * n + 1) m
-    (behind i items n m (2 * n + 1) m few need.0 few.rooms known.1 few.memory) need.2)
+    (after i items n m (2 * n + 1) m few need.0 few.rooms known.1 few.memory) need.2)
 few_carried (item.Mem range ∷ is) items n m few need =
     let i : Item = item.Mem range in
     let known = covers_few which.Memory range items m need.0 need.1 (few.rooms which.Memory) (few.within which.Memory) few.memory in
     goes i is items (add_range-idle items range known.0) (few_carried is (items ++ i ∷ []) n (2 * m + 1)
-    (behind i items n m n (2 * m + 1) few need.0 few.rooms few.reserved known.1) need.2)
+    (after i items n m n (2 * m + 1) few need.0 few.rooms few.reserved known.1) need.2)
 few_carried (item.Trim ∷ is) items n m few need =
     let fewer = length-trimmed (table_of which.Memory items) (few.within which.Memory) in
     goes item.Trim is items refl (few_carried is (items ++ item.Trim ∷ []) n m
-    (behind item.Trim items n m n m few tt few.rooms few.reserved (omega (arith, fewer, few.memory))) need)
+    (after item.Trim items n m n m few tt few.rooms few.reserved (omega (arith, fewer, few.memory))) need)
 few_carried (item.Limit at ∷ is) items n m few need =
     goes (item.Limit at) is items refl (few_carried is (items ++ item.Limit at ∷ []) n m
-    (behind (item.Limit at) items n m n m few tt few.rooms few.reserved few.memory) need)
+    (after (item.Limit at) items n m n m few tt few.rooms few.reserved few.memory) need)
 few_carried (i ∷ is) items n m few need = absurd need
 
 -- carrying out a short list from the beginning writes exactly the list

@@ -139,7 +139,7 @@ free_out later zero line next amid =
     let here = subst (λ (l : Line). RunsOutDuringLine found later (line_effect begun l)) same amid in
     elim here.0 [
       | inl cut ↦ absurd (omega (arith, cut.short))
-      | inr behind ↦ true≢false (sym behind.0)
+      | inr after ↦ true≢false (sym after.0)
     ]
 free_out later (suc k) line next amid =
     absurd (omega (arith, simp (length-take, length-append) at (ap (λ (ls : List Line). length ls) next)))

@@ -20,10 +20,10 @@ pub ran-cut : (takes : Bool) (old new : List Item) (o : growth.ChangeEffect) →
 ran-cut takes old new o ran =
     elim ran as (λ _. WritesFirstSteps old new o.steps) [
       | inl cut ↦ cut-short old new o.steps cut
-      | inr behind ↦ record {
+      | inr after ↦ record {
         count = length o.steps;
         within = omega arith;
-        stands = rw take-length behind.2;
+        stands = rw take-length after.2;
       }
     ]
 
@@ -35,7 +35,7 @@ only-answers (Err memory) old new d only acts =
     let none = ap (λ (o : growth.ChangeEffect). length o.steps) only.unchanged in
     elim acts.0 as (λ _. IsOk {T = Outcome} (Err memory)) [
       | inl cut ↦ let short = cut.short in absurd (omega (arith, none, short))
-      | inr behind ↦ absurd (true≢false (sym behind.0 ∙ only.untaken))
+      | inr after ↦ absurd (true≢false (sym after.0 ∙ only.untaken))
     ]
 
 -- without a fill, the bytes after a line are those of the items

@@ -74,7 +74,7 @@ all-before (line ∷ lines) = elim (cases_Bool (is_sections line.act)) [
 -- the loop has passed i lines, and none of them places the sections
 pub record Passed (lines : List Line) (i : ℕ) : Type 0 where
   pub before : lines_before_sections lines ≡ take i lines ++ lines_before_sections (drop i lines)
-  pub behind : lines_after_sections lines ≡ lines_after_sections (drop i lines)
+  pub after : lines_after_sections lines ≡ lines_after_sections (drop i lines)
 
 -- the next line places the sections
 pub passed-here : (lines : List Line) (i : ℕ) (line : Line) → i < length lines → line ≡ get_or lines i line →
@@ -82,11 +82,11 @@ pub passed-here : (lines : List Line) (i : ℕ) (line : Line) → i < length lin
     (take i lines ≡ lines_before_sections lines) × (drop (i + 1) lines ≡ lines_after_sections lines)
 passed-here lines i line below is here passed =
     let whole : drop i lines ≡ line ∷ drop (i + 1) lines = rw (add-one, drop-cons lines i line below, ← is) refl in
-    (sym (rw (whole, here, append-nil (take i lines)) at passed.before), sym (rw (whole, here) at passed.behind))
+    (sym (rw (whole, here, append-nil (take i lines)) at passed.before), sym (rw (whole, here) at passed.after))
 
 -- no line places the sections
 pub passed-all : (lines : List Line) (i : ℕ) → length lines ≤ i → Passed lines i →
     (lines ≡ lines_before_sections lines) × ([] ≡ lines_after_sections lines)
 passed-all lines i all passed =
     let none : drop i lines ≡ [] = drop_all i lines all in
-    (sym (rw (none, append-nil (take i lines), take_all i lines all) at passed.before), sym (rw none at passed.behind))
+    (sym (rw (none, append-nil (take i lines), take_all i lines all) at passed.before), sym (rw none at passed.after))

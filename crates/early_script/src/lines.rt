@@ -76,7 +76,7 @@ pub fn split_at_sections(lines: &[Line]) -> (&[Line], &[Line])
     requires once { PlacesSectionsOnce lines.now }
     requires bounds { All (λ l. HasBounds l.act) lines.now }
     ensures before { result.0.now ≡ lines_before_sections lines.now }
-    ensures behind { result.1.now ≡ lines_after_sections lines.now }
+    ensures after { result.1.now ≡ lines_after_sections lines.now }
     ensures run { All (λ l. CanBeRun l.act) result.0.now × All (λ l. CanBeRun l.act) result.1.now }
     ensures bounds { All (λ l. HasBounds l.act) result.0.now
         × All (λ l. HasBounds l.act) result.1.now }

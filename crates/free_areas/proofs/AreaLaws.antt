@@ -40,8 +40,8 @@ abbrev front : Block → Block
 front c = record c { first = c.first - 1024 }
 
 -- the frame after a block of the largest order isn't in that block
-behind_differs : (f : Frames) (b c : Block) → IsBlock f b → AreLargestInSameZone b c → IsInBlock c (b.first + 2 ^ b.order) → c ≡ b → ⊥
-behind_differs f b c block like inner same =
+after_differs : (f : Frames) (b c : Block) → IsBlock f b → AreLargestInSameZone b c → IsInBlock c (b.first + 2 ^ b.order) → c ≡ b → ⊥
+after_differs f b c block like inner same =
     let there : (b.first + 2 ^ b.order) / 2 ^ b.order ≡ b.first / 2 ^ b.order =
     subst (λ (d : Block). IsInBlock d (b.first + 2 ^ b.order)) same inner in
     let high = set_until (2 ^ b.order) b.first (b.first + 2 ^ b.order) (pow_pos b.order) there in
@@ -49,21 +49,21 @@ behind_differs f b c block like inner same =
     absurd (omega (arith, high, aligned))
 
 -- the list is an index after a set has been taken from block `b`
-pub split_areas : (f g : Frames) (low x : ℕ) (b : Block) (behind : Option Block) (bs ms cs : List Block) → IndexesFreeBlocks f bs
-    → RemovesFrameSet f g low x → IsBlock f b → IsInBlock b x → low ≤ b.order → behind ≡ block_of f (b.first + 2 ^ b.order)
-    → ((c : Block) → ListsBlock ms c → ((c ≢ b) × ListsBlock bs c) ⊎ ((behind ≡ Some c) × AreLargestInSameZone b c))
+pub split_areas : (f g : Frames) (low x : ℕ) (b : Block) (after : Option Block) (bs ms cs : List Block) → IndexesFreeBlocks f bs
+    → RemovesFrameSet f g low x → IsBlock f b → IsInBlock b x → low ≤ b.order → after ≡ block_of f (b.first + 2 ^ b.order)
+    → ((c : Block) → ListsBlock ms c → ((c ≢ b) × ListsBlock bs c) ⊎ ((after ≡ Some c) × AreLargestInSameZone b c))
     → ((c : Block) → c ≢ b → ListsBlock bs c → ListsBlock ms c)
-    → ((c : Block) → behind ≡ Some c → AreLargestInSameZone b c → ListsBlock ms c)
+    → ((c : Block) → after ≡ Some c → AreLargestInSameZone b c → ListsBlock ms c)
     → AddsBuddies b low b.order x ms cs → IndexesFreeBlocks g cs
-split_areas f g low x b behind bs ms cs areas without block inner order next sound kept back buddies = record {
+split_areas f g low x b after bs ms cs areas without block inner order next sound kept back buddies = record {
   sound = λ c has. ⊎_elim
       (λ (it : IsBuddy b low b.order x c).
       subst (λ (d : Block). IsBlock g d) (sym it.is) (left_is_block f g low it.order x b without block inner it.from it.below))
       (λ (was : ListsBlock ms c). ⊎_elim
       (λ (had : (c ≢ b) × ListsBlock bs c). others_stay f g low x b c without block inner order (areas.sound c had.1) had.0)
-      (λ (goes : (behind ≡ Some c) × AreLargestInSameZone b c).
+      (λ (goes : (after ≡ Some c) × AreLargestInSameZone b c).
       let found = block_found f (b.first + 2 ^ b.order) c (sym next ∙ goes.0) in
-      let other : c ≢ b = λ same. behind_differs f b c block goes.1 found.1 same in
+      let other : c ≢ b = λ same. after_differs f b c block goes.1 found.1 same in
       others_stay f g low x b c without block inner order found.0 other)
       (sound c was))
       ((buddies c).0 has);
@@ -81,7 +81,7 @@ split_areas f g low x b behind bs ms cs areas without block inner order next sou
               let size : b.first + 2 ^ b.order ≡ c.first =
               let there : b.first + 2 ^ b.order ≡ b.first + 1024 = ap (λ o. b.first + 2 ^ o) order_is in
               omega (arith, there, same, room) in
-              let found : behind ≡ Some c = next ∙ ap (block_of f) size ∙ found_block f c.first c was refl in
+              let found : after ≡ Some c = next ∙ ap (block_of f) size ∙ found_block f c.first c was refl in
               inl ((buddies c).1 (inr (back c found (record {
                 great = order_is;
                 order = follows.great;
@@ -256,14 +256,14 @@ in_rows [] b rows has = absurd has
 in_rows (r ∷ rs) b rows has = ⊎_elim
     (λ (one : ListsBlock (blocks_of_row r) b). ⊎_elim
     (λ (is : first_block_of_row r ≡ b). inl (inl is))
-    (λ (behind : (2 ^ r.order ≤ b.first) × (b.order ≡ r.order) × ListsBlock (blocks_of_row r) (record b { first = b.first - 2 ^ r.order })).
+    (λ (after : (2 ^ r.order ≤ b.first) × (b.order ≡ r.order) × ListsBlock (blocks_of_row r) (record b { first = b.first - 2 ^ r.order })).
     ⊎_elim
     (λ (ten : r.order ≡ 10).
     let size : 2 ^ r.order ≡ 1024 = ap (λ o. 2 ^ o) ten in
     let before : ListsBlock (blocks_of_row r) (record b { first = b.first - 1024 }) =
-    subst (λ (s : ℕ). ListsBlock (blocks_of_row r) (record b { first = b.first - s })) size behind.2 in
-    let room = behind.0 in
-    inr (behind.1 ∙ ten, omega (arith, room, size), lists_left (blocks_of_row r) (blocks_of_rows rs) _ before))
+    subst (λ (s : ℕ). ListsBlock (blocks_of_row r) (record b { first = b.first - s })) size after.2 in
+    let room = after.0 in
+    inr (after.1 ∙ ten, omega (arith, room, size), lists_left (blocks_of_row r) (blocks_of_rows rs) _ before))
     (λ (single : r.count ≡ 1).
     let only : ListsBlock (row_from r.order r.first r.node r.zone 1) b =
     subst (λ (k : ℕ). ListsBlock (row_from r.order r.first r.node r.zone k) b) single one in
@@ -272,8 +272,8 @@ in_rows (r ∷ rs) b rows has = ⊎_elim
     (in_row r.count r.order r.first r.node r.zone b one))
     (λ (two : ListsBlock (blocks_of_rows rs) b). ⊎_elim
     (λ (leading : ListsBlock (leads rs) b). inl (inr leading))
-    (λ (behind : (b.order ≡ 10) × (1024 ≤ b.first) × ListsBlock (blocks_of_rows rs) (record b { first = b.first - 1024 })).
-    inr (behind.0, behind.1, lists_right (blocks_of_row r) (blocks_of_rows rs) _ behind.2))
+    (λ (after : (b.order ≡ 10) × (1024 ≤ b.first) × ListsBlock (blocks_of_rows rs) (record b { first = b.first - 1024 })).
+    inr (after.0, after.1, lists_right (blocks_of_row r) (blocks_of_rows rs) _ after.2))
     (in_rows rs b rows.3 two))
     (lists_append (blocks_of_row r) (blocks_of_rows rs) b has)
 
@@ -288,9 +288,9 @@ leads_done f rs bs low rows all sound complete = record {
       let listed : ListsBlock (blocks_of_rows rs) b =
       subst (λ (cs : List Block). ListsBlock cs b) (sym all) (listed_complete f b low is) in ⊎_elim
       (λ (leading : ListsBlock (leads rs) b). inl (complete b leading))
-      (λ (behind : (b.order ≡ 10) × (1024 ≤ b.first) × ListsBlock (blocks_of_rows rs) (record b { first = b.first - 1024 })).
-      let before = listed_sound f (front b) (subst (λ (cs : List Block). ListsBlock cs (front b)) all behind.2) in
-      inr (record { great = behind.0; room = behind.1; before = before }))
+      (λ (after : (b.order ≡ 10) × (1024 ≤ b.first) × ListsBlock (blocks_of_rows rs) (record b { first = b.first - 1024 })).
+      let before = listed_sound f (front b) (subst (λ (cs : List Block). ListsBlock cs (front b)) all after.2) in
+      inr (record { great = after.0; room = after.1; before = before }))
       (in_rows rs b rows listed);
 }
 

@@ -82,7 +82,7 @@ impl Areas {
 
     /// Updates the index after the aligned set of `2^order` frames that has `frame` was taken from
     /// `block` (`expand`). The free halves that are left replace `block` in the index: one buddy of
-    /// each order from `order` to below the order of `block`. `behind` must be the block that
+    /// each order from `order` to below the order of `block`. `after` must be the block that
     /// begins where `block` ends, or `None` if there is none.
     ///
     /// # Errors
@@ -91,7 +91,7 @@ impl Areas {
     pub fn split_block(
         &mut self,
         block: &Block,
-        behind: Option<Block>,
+        after: Option<Block>,
         order: u32,
         frame: u64,
     ) -> Result<(), Memory>
@@ -100,10 +100,10 @@ impl Areas {
         ensures { OnOk result ((f g : Frames) → IndexesFreeBlocks f self.old
             → RemovesFrameSet f g order frame → IsBlock f block.now →
             IsInBlock block.now frame → order ≤ block.now.order
-            → behind ≡ block_of f (block.now.first + 2 ^ block.now.order) →
+            → after ≡ block_of f (block.now.first + 2 ^ block.now.order) →
             IndexesFreeBlocks g self.new) }
     {
-        remove_and_add_next(&mut self.blocks, block, behind)?;
+        remove_and_add_next(&mut self.blocks, block, after)?;
         insert_buddies(&mut self.blocks, block, order, frame)
     }
 

@@ -43,7 +43,7 @@ fn remove_block(blocks: &mut BTreeSet<Block>, block: &Block)
     let _ = blocks.remove(block);
 }
 
-/// Removes `block` from the set. Adds `behind`, the block right after it, if both are of the
+/// Removes `block` from the set. Adds `after`, the block right after it, if both are of the
 /// largest order, on one node and in one zone. The set may lack such a block as long as it has the
 /// block before.
 ///
@@ -53,19 +53,19 @@ fn remove_block(blocks: &mut BTreeSet<Block>, block: &Block)
 pub fn remove_and_add_next(
     blocks: &mut BTreeSet<Block>,
     block: &Block,
-    behind: Option<Block>,
+    after: Option<Block>,
 ) -> Result<(), Memory>
     ensures sound { OnOk result ((b : AnyBlock) → ListsBlock blocks.new.keys b →
         ((b ≢ block.now) × ListsBlock blocks.old.keys b)
-        ⊎ ((behind ≡ Some b) × AreLargestInSameZone block.now b)) }
+        ⊎ ((after ≡ Some b) × AreLargestInSameZone block.now b)) }
     ensures kept { OnOk result ((b : AnyBlock) → b ≢ block.now → ListsBlock blocks.old.keys b
         → ListsBlock blocks.new.keys b) }
-    ensures behind { OnOk result ((b : AnyBlock) → behind ≡ Some b → AreLargestInSameZone
+    ensures after { OnOk result ((b : AnyBlock) → after ≡ Some b → AreLargestInSameZone
         block.now b
         → ListsBlock blocks.new.keys b) }
 {
     remove_block(blocks, block);
-    match next_block_of_row(block, behind) {
+    match next_block_of_row(block, after) {
         Some(next) => insert_block(blocks, next),
         None => Ok(()),
     }
@@ -108,16 +108,16 @@ pub fn remove_buddies(blocks: &mut BTreeSet<Block>, block: &Block, order: u32, f
     }
 }
 
-/// Returns `behind`, the block right after `block`, if both are of the largest order, on one node
-/// and in one zone. Otherwise returns `None`. The index may lack such a `behind` only while it has
+/// Returns `after`, the block right after `block`, if both are of the largest order, on one node
+/// and in one zone. Otherwise returns `None`. The index may lack such an `after` only while it has
 /// `block`, so a caller that removes `block` must add it.
-fn next_block_of_row(block: &Block, behind: Option<Block>) -> Option<Block>
-    ensures some { IfSome result (λ next. (behind ≡ Some next) × AreLargestInSameZone block.now
+fn next_block_of_row(block: &Block, after: Option<Block>) -> Option<Block>
+    ensures some { IfSome result (λ next. (after ≡ Some next) × AreLargestInSameZone block.now
         next) }
-    ensures none { IfNone result ((next : AnyBlock) → behind ≡ Some next
+    ensures none { IfNone result ((next : AnyBlock) → after ≡ Some next
         → AreLargestInSameZone block.now next → ⊥) }
 {
-    behind.filter(|next| {
+    after.filter(|next| {
         block.order == MAX_ORDER
             && next.order == MAX_ORDER
             && next.node == block.node

@@ -31,54 +31,54 @@ first_carried i is items last ends = goes_on (items_or_refusal items (change_wri
 
 -- after quiet steps and an item, the items that change memory are those before and this one, if it
 -- changes memory
-one_behind : (items : List Item) (ss : List (List Item)) (i : Item) → StepsKeepMemory ss
+one_after : (items : List Item) (ss : List (List Item)) (i : Item) → StepsKeepMemory ss
     → memory_items (items ++ items_of_steps (ss ++ (i ∷ []) ∷ [])) ≡ memory_items items ++ memory_items (i ∷ [])
-one_behind items ss i quiet =
+one_after items ss i quiet =
     memory_items-append items (items_of_steps (ss ++ (i ∷ []) ∷ []))
     ∙ ap (λ (t : List Item). memory_items items ++ memory_items t) (items_of_steps-append ss ((i ∷ []) ∷ []))
     ∙ ap (λ (t : List Item). memory_items items ++ t) (memory_items-append (items_of_steps ss) (i ∷ []))
     ∙ ap (λ (t : List Item). memory_items items ++ (t ++ memory_items (i ∷ []))) (quiet-joined ss quiet)
 
-written_behind : (first : ChangeEffect) (r : Option RefusedGrowth) (items next : List Item) (i : Item) → first.refused ≡ r
+written_after : (first : ChangeEffect) (r : Option RefusedGrowth) (items next : List Item) (i : Item) → first.refused ≡ r
     → StepsKeepMemory first.steps
     → items_or_refusal items (followed_by first r (write_item i (items_after_change items first))) ≡ Ok next
     → memory_items next ≡ memory_items items ++ memory_items (i ∷ [])
-written_behind first None items next i is quiet ends =
+written_after first None items next i is quiet ends =
     let same : items ++ items_of_steps (first.steps ++ (i ∷ []) ∷ []) ≡ next = cc in
-    ap memory_items (sym same) ∙ one_behind items first.steps i quiet
-written_behind first (Some r) items next i is quiet ends =
+    ap memory_items (sym same) ∙ one_after items first.steps i quiet
+written_after first (Some r) items next i is quiet ends =
     let clash : unless_refused (Some r) (items_after_change items first) ≡ Ok next = rw is at ends in absurd (cc)
 
 -- a change that writes its item after quiet growth
-grown_behind : (growth : Change) (i : Item) (items next : List Item) → IsQuiet growth
+grown_after : (growth : Change) (i : Item) (items next : List Item) → IsQuiet growth
     → items_or_refusal items ((growth >> write_item i) items) ≡ Ok next
     → memory_items next ≡ memory_items items ++ memory_items (i ∷ [])
-grown_behind growth i items next quiet ends =
-    written_behind (growth items) (growth items).refused items next i refl (quiet.each items) ends
+grown_after growth i items next quiet ends =
+    written_after (growth items) (growth items).refused items next i refl (quiet.each items) ends
 
-plainly_behind : (i : Item) (items next : List Item) → items_or_refusal items (write_item i items) ≡ Ok next
+plainly_after : (i : Item) (items next : List Item) → items_or_refusal items (write_item i items) ≡ Ok next
     → memory_items next ≡ memory_items items ++ memory_items (i ∷ [])
-plainly_behind i items next ends =
+plainly_after i items next ends =
     let same : items ++ (i ∷ [] ++ []) ≡ next = cc in
-    ap memory_items (sym same) ∙ one_behind items [] i tt
+    ap memory_items (sym same) ∙ one_after items [] i tt
 
 -- the items that change memory after one item has been written with its growth
 pub change_writing_item-memory : (i : Item) (items next : List Item) → items_or_refusal items (change_writing_item i items) ≡ Ok next
     → memory_items next ≡ memory_items items ++ memory_items (i ∷ [])
 unfolding add_range set_range_node set_range_mirror claim_range free_range
 change_writing_item-memory (item.Mem range) items next ends =
-    grown_behind _ (item.Mem range) items next
+    grown_after _ (item.Mem range) items next
     (quiet-grown which.Memory (count_uncovered_pieces which.Memory range) _ memory_growth-quiet) ends
 change_writing_item-memory (item.Node range node) items next ends =
-    grown_behind _ (item.Node range node) items next (quiet-grown which.Memory max_records_added_by_split _ memory_growth-quiet) ends
+    grown_after _ (item.Node range node) items next (quiet-grown which.Memory max_records_added_by_split _ memory_growth-quiet) ends
 change_writing_item-memory (item.Mirror range) items next ends =
-    grown_behind _ (item.Mirror range) items next (quiet-grown which.Memory max_records_added_by_split _ memory_growth-quiet) ends
+    grown_after _ (item.Mirror range) items next (quiet-grown which.Memory max_records_added_by_split _ memory_growth-quiet) ends
 change_writing_item-memory (item.Claim range who) items next ends =
-    grown_behind _ (item.Claim range who) items next
+    grown_after _ (item.Claim range who) items next
     (quiet-grown which.Reserved (count_uncovered_pieces which.Reserved range) _ (reserved_growth-quiet range)) ends
 change_writing_item-memory (item.Free range) items next ends =
-    grown_behind _ (item.Free range) items next (quiet-grown which.Reserved max_records_added_by_split _ (reserved_growth-quiet range)) ends
-change_writing_item-memory i items next ends = plainly_behind i items next ends
+    grown_after _ (item.Free range) items next (quiet-grown which.Reserved max_records_added_by_split _ (reserved_growth-quiet range)) ends
+change_writing_item-memory i items next ends = plainly_after i items next ends
 
 -- the items that change memory after a list has been carried out: no item of growth is among them
 pub carried-memory : (is items last : List Item) → carry_out_items is items ≡ Ok last

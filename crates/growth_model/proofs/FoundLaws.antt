@@ -73,10 +73,10 @@ new_between items avoid room lo hi place within beside found =
 pub beside-new : (items : List Item) (avoid : RangeView) (room place : ℕ) → place_beside_range avoid room items ≡ Some place
     → IsNew items avoid room place
 beside-new items avoid room place found =
-    let behind = end_of avoid in let limit = limit_of items in let before = min avoid.base limit in
-    elim (either (best_place items (table_query room behind limit)) (best_place items (table_query room 0 before)) place found)
+    let after = end_of avoid in let limit = limit_of items in let before = min avoid.base limit in
+    elim (either (best_place items (table_query room after limit)) (best_place items (table_query room 0 before)) place found)
     as (λ _. IsNew items avoid room place) [
-      | inl above ↦ new_between items avoid room behind limit place (omega arith) (λ x from under low high. omega arith) above
+      | inl above ↦ new_between items avoid room after limit place (omega arith) (λ x from under low high. omega arith) above
       | inr below ↦ new_between items avoid room 0 before place (omega arith) (λ x from under low high. omega arith) below
     ]
 

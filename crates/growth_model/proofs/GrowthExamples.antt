@@ -181,10 +181,10 @@ a_claim = claim_range-idle small (frame 32) owner.Soft claim_has_room
 
 -- a free may add two records: if 127 of 128 are used, the table grows first, and without a place
 -- the free is refused
-free_behind_127 : (range : RangeView) (items : List Item) → record_count which.Reserved items ≡ 127 → room_of which.Reserved items ≡ 128
+free_after_127 : (range : RangeView) (items : List Item) → record_count which.Reserved items ≡ 127 → room_of which.Reserved items ≡ 128
     → place_beside_range range 128 items ≡ None → free_range range items ≡ refuse_growth which.Reserved 128 items
 unfolding free_range reserved_growth reserved_growth_at
-free_behind_127 range items many room none =
+free_after_127 range items many room none =
     let full : is_full which.Reserved max_records_added_by_split items ≡ true = grind (arith, nat_tests, many, room) in
     rw (full, room, none) refl
 

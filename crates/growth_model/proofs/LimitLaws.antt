@@ -41,10 +41,10 @@ unfolding reserved_growth
 reserved-stays m n a t at =
     at-stays m n (room_of which.Reserved t) (moved_to which.Reserved t) (place_beside_range a (room_of which.Reserved t) t) t at
 
-behind-growths : (m : Option ℕ) (n : ℕ) (a : RangeView) (more : List Item → ℕ) (i : Item) (t : List Item)
+after-growths : (m : Option ℕ) (n : ℕ) (a : RangeView) (more : List Item → ℕ) (i : Item) (t : List Item)
     → ((u : List Item) → LiesAt m n u → LiesAt m n (u ++ i ∷ [])) → LiesAt m n t
     → EachCut (LiesAt m n) t ((make_table_room which.Reserved more (reserved_growth a) >> write_item i) t).steps
-behind-growths m n a more i t keep at =
+after-growths m n a more i t keep at =
     let growths : Change = make_table_room which.Reserved more (reserved_growth a) in
     let throughout : EachCut (LiesAt m n) t (growths t).steps =
     cuts-grown (LiesAt m n) which.Reserved more (reserved_growth a) t (λ u here. reserved-stays m n a u here) at in
@@ -55,13 +55,13 @@ pub claim_range-stays : (m : Option ℕ) (n : ℕ) (a : RangeView) (o : Owner) (
     → EachCut (LiesAt m n) t (claim_range a o t).steps
 unfolding claim_range
 claim_range-stays m n a o t at =
-    behind-growths m n a (count_uncovered_pieces which.Reserved a) (item.Claim a o) t
+    after-growths m n a (count_uncovered_pieces which.Reserved a) (item.Claim a o) t
     (λ u here. (moves-of which.Memory u _ ∙ here.0, rooms-of which.Memory u _ ∙ here.1)) at
 
 free_range-stays : (m : Option ℕ) (n : ℕ) (a : RangeView) (t : List Item) → LiesAt m n t → EachCut (LiesAt m n) t (free_range a t).steps
 unfolding free_range
 free_range-stays m n a t at =
-    behind-growths m n a max_records_added_by_split (item.Free a) t
+    after-growths m n a max_records_added_by_split (item.Free a) t
     (λ u here. (moves-of which.Memory u _ ∙ here.0, rooms-of which.Memory u _ ∙ here.1)) at
 
 pub free_old_place-stays : (m : Option ℕ) (n : ℕ) (old : Option RangeView) (t : List Item) → LiesAt m n t

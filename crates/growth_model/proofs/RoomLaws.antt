@@ -81,8 +81,8 @@ module _ (w : Which) (more : List Item → ℕ) (growth : Change)
         enough t u (items_after_change u (once u)) fits first.doubled second.doubled (few (items_after_change u (once u)) second.bounded)
   ]
 
-  room-behind : (t : List Item) → Bounded w t → record_count w t ≤ room_of w t → HasRoomAfter w more growth t
-  room-behind t bounded fits unrefused =
+  room-after : (t : List Item) → Bounded w t → record_count w t ≤ room_of w t → HasRoomAfter w more growth t
+  room-after t bounded fits unrefused =
       let parts = then-unrefused t once once unrefused in
       let u : List Item = items_after_change t (once t) in
       ap (is_full w more) (items_after_change-then t once once parts.0)
@@ -243,25 +243,25 @@ few-two w t bounded = omega arith
 pub enough-claimed : (avoid range : RangeView) (items : List Item) → IsInAddressSpace items → TablesHaveRoom items → end_of range ≤ 2 ^ 64
     → HasRoomAfter which.Reserved (count_uncovered_pieces which.Reserved range) (reserved_growth avoid) items
 enough-claimed avoid range items space fits ends =
-    room-behind which.Reserved (count_uncovered_pieces which.Reserved range) (reserved_growth avoid) (reserved-well avoid)
+    room-after which.Reserved (count_uncovered_pieces which.Reserved range) (reserved_growth avoid) (reserved-well avoid)
     (few-new which.Reserved range ends) items (bounded-of which.Reserved items space) (fits which.Reserved)
 
 pub enough-freed : (avoid : RangeView) (items : List Item) → IsInAddressSpace items → TablesHaveRoom items
     → HasRoomAfter which.Reserved max_records_added_by_split (reserved_growth avoid) items
 enough-freed avoid items space fits =
-    room-behind which.Reserved max_records_added_by_split (reserved_growth avoid) (reserved-well avoid) (few-two which.Reserved) items
+    room-after which.Reserved max_records_added_by_split (reserved_growth avoid) (reserved-well avoid) (few-two which.Reserved) items
     (bounded-of which.Reserved items space) (fits which.Reserved)
 
 pub enough-added : (range : RangeView) (items : List Item) → IsInAddressSpace items → TablesHaveRoom items → end_of range ≤ 2 ^ 64
     → HasRoomAfter which.Memory (count_uncovered_pieces which.Memory range) memory_growth items
 enough-added range items space fits ends =
-    room-behind which.Memory (count_uncovered_pieces which.Memory range) memory_growth memory-well (few-new which.Memory range ends) items
+    room-after which.Memory (count_uncovered_pieces which.Memory range) memory_growth memory-well (few-new which.Memory range ends) items
     (bounded-of which.Memory items space) (fits which.Memory)
 
 pub enough-labelled : (items : List Item) → IsInAddressSpace items → TablesHaveRoom items
     → HasRoomAfter which.Memory max_records_added_by_split memory_growth items
 enough-labelled items space fits =
-    room-behind which.Memory max_records_added_by_split memory_growth memory-well (few-two which.Memory) items
+    room-after which.Memory max_records_added_by_split memory_growth memory-well (few-two which.Memory) items
     (bounded-of which.Memory items space)
     (fits which.Memory)
 

@@ -82,8 +82,8 @@ not_where_the_script_claimed seat = let kept = seat.kept 65536 refl in cc
 beside_the_scripts_frame : IsTablePlace scripted (record { base = 69632; size = 3072 })
 beside_the_scripts_frame = record {
   aligned = refl;
-  kept = λ x at. let behind : covers (frame 16) x ≡ false = grind (arith, nat_tests, at) in
-      let among : covers image x ≡ true = grind (arith, nat_tests, at) in rw (behind, among) refl;
+  kept = λ x at. let after : covers (frame 16) x ≡ false = grind (arith, nat_tests, at) in
+      let among : covers image x ≡ true = grind (arith, nat_tests, at) in rw (after, among) refl;
 }
 
 -- the first frames of the image overlap no table, and its last two do

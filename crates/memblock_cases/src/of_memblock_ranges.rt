@@ -336,9 +336,9 @@ fn read_across(rt: &impl Abort, tables: &mut Tables) -> Result<(), Memory> {
     let freed = bytes(0x2FFF000, 0x10);
     assert!(rt; !tables.overlaps_table(freed));
     tables.prepare(bytes(0x2FFEC00, 8))?;
-    let behind = bytes(0x2FFEC00, 8);
-    if !tables.overlaps_table(behind) {
-        tables.fill(behind, 7);
+    let after = bytes(0x2FFEC00, 8);
+    if !tables.overlaps_table(after) {
+        tables.fill(after, 7);
     }
     let mut across = [9; 12];
     tables.read(0x2FFEBFC, &mut across);

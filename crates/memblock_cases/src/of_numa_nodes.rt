@@ -29,7 +29,7 @@ fn ends_with_limit(memblock: &Memblock) -> bool
 // Returns the items of the journal after the three that made the machine.
 fn items_after_machine(memblock: &Memblock) -> &[Item] {
     match memblock.journal().items() {
-        [_, _, _, behind @ ..] => behind,
+        [_, _, _, after @ ..] => after,
         _ => &[],
     }
 }

@@ -14,10 +14,10 @@ pub look_bottom : (rs : List (RunOf LabelView)) (at : ℕ) → ExactlyFirstBegin
     → IsLookDown rs at (record { label = None; bound = 0; slot = 0 })
 look_bottom rs at begun = record {
   down = record {
-    stays = λ x above under. none_beside x rs (λ i less. let base = begun.behind i (omega arith) less in inr (omega arith));
+    stays = λ x above under. none_beside x rs (λ i less. let base = begun.after i (omega arith) less in inr (omega arith));
     another = λ x next same. absurd (omega arith);
   };
-  next = record { runs = begun.runs; within = omega arith; before = λ i less. absurd (omega arith); behind = λ i from less. omega arith };
+  next = record { runs = begun.runs; within = omega arith; before = λ i less. absurd (omega arith); after = λ i from less. omega arith };
   order = omega arith;
   below = λ some. some;
 }
@@ -36,7 +36,7 @@ look_gap rs slot at some begun under_at =
         stays = λ x above under. none_beside x rs (λ j less.
             elim (cases_lt j slot) as (λ _. (run_end (nth_record rs j) ≤ x) ⊎ (x < (nth_record rs j).base)) [
               | inl before ↦ let ends = ends_ascend j i rs runs (omega arith) last in inl (omega arith)
-              | inr after ↦ let base = begun.behind j after less in inr (omega arith)
+              | inr after ↦ let base = begun.after j after less in inr (omega arith)
             ]);
         another = λ x next same.
             let here : value_at rs x ≡ Some (nth_record rs i).value = value_in i x rs runs last (omega arith) (omega arith) in
@@ -46,7 +46,7 @@ look_gap rs slot at some begun under_at =
         runs = runs;
         within = begun.within;
         before = λ j less. let bases = bases_ascend j i rs runs (omega arith) last in omega arith;
-        behind = λ j from less. ends_before i j rs runs (omega arith) less;
+        after = λ j from less. ends_before i j rs runs (omega arith) less;
       };
       order = omega arith;
       below = λ _. under_at;
@@ -73,7 +73,7 @@ look_in rs slot at some begun at_end =
             let ends = ends_before j i rs runs less last in
             let size = size_at j rs runs (omega arith) in
             omega arith;
-        behind = λ j from less. bases_ascend i j rs runs from less;
+        after = λ j from less. bases_ascend i j rs runs from less;
       };
       order = omega arith;
       below = λ _. base;
@@ -129,7 +129,7 @@ pub among_all : (rs : List (RunOf LabelView)) (at count : ℕ) → AreRuns rs �
 among_all rs at count runs all = record {
   runs = runs;
   within = omega arith;
-  behind = λ i from less. absurd (omega arith);
+  after = λ i from less. absurd (omega arith);
 }
 
 -- if the last of the first `count` records begins below the address, they are exactly those that
@@ -145,7 +145,7 @@ all_begun rs at count among last = record {
       let bases = bases_ascend i (count - 1) rs among.runs (omega arith) (omega arith) in
       let top = last (omega arith) in
       omega arith;
-  behind = among.behind;
+  after = among.after;
 }
 
 pub begun_so_far : (rs : List (RunOf LabelView)) (at middle : ℕ) → AreRuns rs → middle < length rs → (nth_record rs middle).base < at
@@ -154,4 +154,4 @@ begun_so_far rs at middle runs within begun i less = omega (arith, bases_ascend 
 
 pub not_begun_from : (rs : List (RunOf LabelView)) (at middle : ℕ) → AreRuns rs → at ≤ (nth_record rs middle).base
     → (i : ℕ) → middle ≤ i → i < length rs → at ≤ (nth_record rs i).base
-not_begun_from rs at middle runs behind i from within = omega (arith, bases_ascend middle i rs runs from within)
+not_begun_from rs at middle runs after i from within = omega (arith, bases_ascend middle i rs runs from within)

@@ -78,7 +78,7 @@ run_below_claim = record {
         let there : 2 ≡ 0 = ap number (ap free (sym here) ∙ same) in
         omega arith;
   };
-  behind = λ x above under. grind (arith, nat_tests);
+  after = λ x above under. grind (arith, nat_tests);
 }
 
 run_below_cut : IsRunBelow free 0x2800 (record { base = 0x2000; size = 0x800; value = of_node 1 })
@@ -86,11 +86,11 @@ run_below_cut = record {
   some = omega arith;
   ends = omega arith;
   run = record { stays = λ x above under. grind (arith, nat_tests); another = node_1_down.another };
-  behind = λ x above under. absurd (omega arith);
+  after = λ x above under. absurd (omega arith);
 }
 
 not_the_highest : IsRunBelow free 0x2800 (record { base = 0x1900; size = 0x700; value = of_node 0 }) → ⊥
-not_the_highest known = let none : free 0x2000 ≡ None = known.behind 0x2000 (omega arith) (omega arith) in cc
+not_the_highest known = let none : free 0x2000 ≡ None = known.after 0x2000 (omega arith) (omega arith) in cc
 
 -- the run from 0x1840 on, inside a claim, begins at the claim's end; the run from 0x1A00 on begins
 -- there
@@ -172,7 +172,7 @@ begun_one = record {
   runs = memory_in_order;
   within = omega arith;
   before = begun_so_far memory_runs 0x2000 0 memory_in_order (omega arith) (omega arith);
-  behind = second_base;
+  after = second_base;
 }
 
 not_both_begun : ExactlyFirstBeginBelow 0x2000 memory_runs 2 → ⊥
@@ -184,7 +184,7 @@ ended_one = record {
   runs = memory_in_order;
   within = omega arith;
   before = ended_so_far memory_runs 0x2800 0 memory_in_order (omega arith) (omega arith);
-  behind = not_ended_from memory_runs 0x2800 1 memory_in_order (omega arith);
+  after = not_ended_from memory_runs 0x2800 1 memory_in_order (omega arith);
 }
 
 ended_claim : ExactlyFirstEndAtOrBelow 0x2800 claims 1
@@ -192,7 +192,7 @@ ended_claim = record {
   runs = claims_in_order;
   within = omega arith;
   before = ended_so_far claims 0x2800 0 claims_in_order (omega arith) (omega arith);
-  behind = λ i from less. absurd (omega arith);
+  after = λ i from less. absurd (omega arith);
 }
 
 not_ended : ExactlyFirstEndAtOrBelow 0x2800 memory_runs 2 → ⊥

@@ -2,7 +2,7 @@
 use Rattle.std.proofs.Common.{◌≡◌, ℕ, zero, suc, ◌+◌, ◌-◌, ◌<◌, ◌≤◌, Bool, false, Option, Some, None, List, [], ◌∷◌, length, sym, ◌∙◌, ap, inl, inr, arith}
 use Rattle.std.proofs.lemmas.Bool.{cases_lt, true≢false}
 use Rattle.address_runs.specs.Runs.{RunOf, run_end, value_at, AreRuns}
-use Rattle.address_runs.proofs.RunsLaws.{inside, below, behind}
+use Rattle.address_runs.proofs.RunsLaws.{inside, below, past_end}
 use Rattle.memblock_model.specs.Labels.{LabelView, Labels}
 use Rattle.memblock_model.specs.declared.query.Query.{Query}
 use Rattle.memblock_model.proofs.SearchLaws.{fits_in-parts}
@@ -44,7 +44,7 @@ begun_at_end rs count at runs within none end =
           let bases = bases_ascend i (count - 1) rs runs (omega arith) (omega arith) in
           let size = size_at (count - 1) rs runs (omega arith) in
           omega arith;
-      behind = λ i from less.
+      after = λ i from less.
           elim (cases_lt 0 count) as (λ _. at ≤ (nth_record rs i).base) [
             | inl some ↦
                 let is = end some in
@@ -68,7 +68,7 @@ not_serving mirror node x (r ∷ rs) narrow other =
       | inl ahead ↦ rw (below r x ahead) rest
       | inr from ↦ elim (cases_lt x (run_end r)) as (λ _. is_allowed_label mirror node (value_at (r ∷ rs) x) ≡ false) [
         | inl under ↦ rw (inside r x from under) (other zero (omega arith) from under)
-        | inr past ↦ rw (behind r x past) rest
+        | inr past ↦ rw (past_end r x past) rest
       ]
     ]
 
@@ -80,14 +80,14 @@ pub passed_over : (rs : List (RunOf LabelView)) (mirror : Bool) (node : Option �
     → NoAddressIsAllowed mirror (value_at rs) node at look.bound
 passed_over rs mirror node from count at look known narrow fewer end others x above under =
     not_serving mirror node x rs narrow (λ i less base ends.
-    let behind : count ≤ i = le_from_not_lt i count (λ left.
+    let after : count ≤ i = le_from_not_lt i count (λ left.
     let is = end (omega arith) in
     let within = known.next.within in
     let order = ends_ascend i (count - 1) rs known.next.runs (omega arith) (omega arith) in
     omega arith) in
     let before : i + 1 ≤ look.slot = le_from_not_lt look.slot (i + 1) (λ past.
-    let order = known.next.behind i (omega arith) less in omega arith) in
-    others i behind (omega arith))
+    let order = known.next.after i (omega arith) less in omega arith) in
+    others i after (omega arith))
 
 -- no place ends among addresses that aren't allowed
 pub past_refused : (mirror : Bool) (memory reserved : Labels) (q : Query) (at from : ℕ) → 1 ≤ q.size

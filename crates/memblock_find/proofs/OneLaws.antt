@@ -67,7 +67,7 @@ no_lower_end f below r s one two =
     let x : ℕ = run_end s - 1 in
     let some = two.some in
     let ends = two.ends in
-    let none : f x ≡ None = one.behind x (omega arith) (omega arith) in
+    let none : f x ≡ None = one.after x (omega arith) (omega arith) in
     let here : f x ≡ Some s.value = two.run.stays x (omega arith) (omega arith) in
     cc)
 

@@ -5,7 +5,7 @@ use Rattle.std.proofs.lemmas.Bool.{cases_lt}
 use Rattle.address_runs.specs.Runs.{RunOf, run_end, value_at, AreRuns}
 use Rattle.address_runs.specs.Edits.{IsEmptyFrom}
 use Rattle.address_runs.specs.Sweep.{StartAtOrPast}
-use Rattle.address_runs.proofs.RunsLaws.{inside, below, behind, none_below, rest_from, another_value_at_run_end}
+use Rattle.address_runs.proofs.RunsLaws.{inside, below, past_end, none_below, rest_from, another_value_at_run_end}
 use Rattle.memblock_model.specs.Labels.{LabelView}
 use Rattle.memblock_ranges.specs.declared.region.Region.{Region}
 use Rattle.memblock_ranges.specs.Encoding.{region_of}
@@ -63,7 +63,7 @@ value_in i x [] runs less above under = absurd (omega arith)
 value_in zero x (r ∷ rs) runs less above under = rw (inside r x above under) refl
 value_in (suc i) x (r ∷ rs) runs less above under =
     let start = start_at (run_end r) i rs runs.2 (rest_from r rs runs) (omega arith) in
-    rw (behind r x (omega arith)) (value_in i x rs runs.2 (omega arith) above under)
+    rw (past_end r x (omega arith)) (value_in i x rs runs.2 (omega arith) above under)
 
 -- an address outside all records has no label
 pub none_beside : (x : ℕ) (rs : List (RunOf LabelView))
@@ -73,14 +73,14 @@ none_beside x [] beside = refl
 none_beside x (r ∷ rs) beside =
     let rest : value_at rs x ≡ None = none_beside x rs (λ i less. beside (suc i) (omega arith)) in
     elim (beside zero (omega arith)) as (λ _. value_at (r ∷ rs) x ≡ None) [
-      | inl past ↦ rw (behind r x past) rest
+      | inl past ↦ rw (past_end r x past) rest
       | inr ahead ↦ rw (below r x ahead) rest
     ]
 
 -- from the end of the last record on there is no label
-pub nothing_behind : (rs : List (RunOf LabelView)) (at : ℕ) → AreRuns rs → (0 < length rs → at ≡ run_end (nth_record rs (length rs - 1)))
+pub nothing_after : (rs : List (RunOf LabelView)) (at : ℕ) → AreRuns rs → (0 < length rs → at ≡ run_end (nth_record rs (length rs - 1)))
     → IsEmptyFrom at (value_at rs)
-nothing_behind rs at runs end x from = none_beside x rs (λ i less.
+nothing_after rs at runs end x from = none_beside x rs (λ i less.
     let is = end (omega arith) in
     let order = ends_ascend i (length rs - 1) rs runs (omega arith) (omega arith) in
     inl (omega arith))
@@ -101,19 +101,19 @@ other_under (suc zero) x (r ∷ (s ∷ ss)) runs less next =
           λ same. let equal : r.value ≡ s.value = cc in runs.1.1 touch equal
       | inr ge ↦
           let none : value_at (s ∷ ss) x ≡ None = none_below s.base x (s ∷ ss) runs.2 (omega arith) (omega arith) in
-          rw (behind r x ge, none) (λ same. cc)
+          rw (past_end r x ge, none) (λ same. cc)
     ]
 other_under (suc (suc i)) x (r ∷ rs) runs less next =
     let start = start_at (run_end r) zero rs runs.2 (rest_from r rs runs) (omega arith) in
     let first = ends_before zero (suc i) rs runs.2 (omega arith) (omega arith) in
     let size = size_at zero rs runs.2 (omega arith) in
-    rw (behind r x (omega arith)) (other_under (suc i) x rs runs.2 (omega arith) next)
+    rw (past_end r x (omega arith)) (other_under (suc i) x rs runs.2 (omega arith) next)
 
 -- the address after a record has another label
 pub other_past : (i : ℕ) (rs : List (RunOf LabelView)) → AreRuns rs → i < length rs
     → value_at rs (run_end (nth_record rs i)) ≢ Some (nth_record rs i).value
 other_past i [] runs less = absurd (omega arith)
-other_past zero (r ∷ rs) runs less = rw (behind r (run_end r) (omega arith)) (another_value_at_run_end r rs runs)
+other_past zero (r ∷ rs) runs less = rw (past_end r (run_end r) (omega arith)) (another_value_at_run_end r rs runs)
 other_past (suc i) (r ∷ rs) runs less =
     let start = start_at (run_end r) i rs runs.2 (rest_from r rs runs) (omega arith) in
-    rw (behind r (run_end (nth_record rs i)) (omega arith)) (other_past i rs runs.2 (omega arith))
+    rw (past_end r (run_end (nth_record rs i)) (omega arith)) (other_past i rs runs.2 (omega arith))

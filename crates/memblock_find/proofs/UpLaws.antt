@@ -28,7 +28,7 @@ look_top rs slot at all small known =
         runs = ended.runs;
         within = known.within;
         before = λ i less. let ends = known.before i less in omega arith;
-        behind = λ i from less. absurd (omega arith);
+        after = λ i from less. absurd (omega arith);
       };
       small = omega arith;
       order = omega arith;
@@ -59,7 +59,7 @@ look_hole rs slot at within ended before_base base_small =
         runs = runs;
         within = ended.within;
         before = λ j less. let ends = ended.before j less in omega arith;
-        behind = λ j from less.
+        after = λ j from less.
             let bases = bases_ascend slot j rs runs from less in
             let some = size_at j rs runs less in
             omega arith;
@@ -77,7 +77,7 @@ pub look_over : (rs : List (RunOf LabelView)) (slot at : ℕ) → slot < length 
     → IsLookUp rs at (record { label = Some (nth_record rs slot).value; bound = run_end (nth_record rs slot); slot = slot + 1 })
 look_over rs slot at within ended from_base end_small =
     let runs : AreRuns rs = ended.runs in
-    let end : at < run_end (nth_record rs slot) = ended.behind slot (omega arith) within in
+    let end : at < run_end (nth_record rs slot) = ended.after slot (omega arith) within in
     record {
       stays = λ x above under. value_in slot x rs runs within (omega arith) under;
       another = λ some. other_past slot rs runs within;
@@ -86,7 +86,7 @@ look_over rs slot at within ended from_base end_small =
         runs = runs;
         within = omega arith;
         before = λ j less. ends_ascend j slot rs runs (omega arith) within;
-        behind = λ j from less.
+        after = λ j from less.
             let ends = ends_before slot j rs runs (omega arith) less in
             let some = size_at j rs runs less in
             omega arith;
@@ -104,7 +104,7 @@ ended_so_far rs at middle runs within ended i less = omega (arith, ends_ascend i
 
 pub not_ended_from : (rs : List (RunOf LabelView)) (at middle : ℕ) → AreRuns rs → at < run_end (nth_record rs middle)
     → (i : ℕ) → middle ≤ i → i < length rs → at < run_end (nth_record rs i)
-not_ended_from rs at middle runs behind i from within = omega (arith, ends_ascend middle i rs runs from within)
+not_ended_from rs at middle runs after i from within = omega (arith, ends_ascend middle i rs runs from within)
 
 -- the addresses of a cursor's stretch upward have its label
 pub stretch_rises : (ms rs : List (RunOf LabelView)) (c : Cursor) (until : ℕ) (label : Option LabelView) → IsWalkUpAt ms rs c

@@ -45,7 +45,7 @@ pub record IsRunBelow (f : Labels) (below : ℕ) (r : RunOf LabelView) : Type 0 
   pub some : 0 < r.size
   pub ends : run_end r ≤ below
   pub run : IsStretchWithBottom f r.base (run_end r) (Some r.value)
-  pub behind : HasValueBetween f (run_end r) below None
+  pub after : HasValueBetween f (run_end r) below None
 
 -- `r` is the lowest run that ends past the address `from`; a run that begins below that address is
 -- cut to begin at it

@@ -17,14 +17,14 @@ nth_record rs i = get_or rs i (record { base = 0; size = 0; value = plain_label 
 pub record OnlyFirstMayBegin (at : ℕ) (rs : List (RunOf LabelView)) (count : ℕ) : Type 0 where
   pub runs : AreRuns rs
   pub within : count ≤ length rs
-  pub behind : (i : ℕ) → count ≤ i → i < length rs → at ≤ (nth_record rs i).base
+  pub after : (i : ℕ) → count ≤ i → i < length rs → at ≤ (nth_record rs i).base
 
 -- the records `rs` are in order, and exactly the first `count` of them begin below address `at`
 pub record ExactlyFirstBeginBelow (at : ℕ) (rs : List (RunOf LabelView)) (count : ℕ) : Type 0 where
   pub runs : AreRuns rs
   pub within : count ≤ length rs
   pub before : (i : ℕ) → i < count → (nth_record rs i).base < at
-  pub behind : (i : ℕ) → count ≤ i → i < length rs → at ≤ (nth_record rs i).base
+  pub after : (i : ℕ) → count ≤ i → i < length rs → at ≤ (nth_record rs i).base
 
 -- the records `rs` are in order, and exactly the first `count` of them end at or below address
 -- `at`
@@ -32,7 +32,7 @@ pub record ExactlyFirstEndAtOrBelow (at : ℕ) (rs : List (RunOf LabelView)) (co
   pub runs : AreRuns rs
   pub within : count ≤ length rs
   pub before : (i : ℕ) → i < count → run_end (nth_record rs i) ≤ at
-  pub behind : (i : ℕ) → count ≤ i → i < length rs → at < run_end (nth_record rs i)
+  pub after : (i : ℕ) → count ≤ i → i < length rs → at < run_end (nth_record rs i)
 
 -- `look` says what the records give the addresses right below `at`. All addresses from its bound to
 -- just below `at` have its label, and the address right below the bound has another. Its slot is

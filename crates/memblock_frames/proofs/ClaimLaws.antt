@@ -6,7 +6,7 @@ use Rattle.bm_base.specs.Frames.{bytes_of_frame}
 use Rattle.bm_base.proofs.EachLaws.{each_in-all, each_in-fails}
 use Rattle.address_runs.specs.Runs.{RunOf, value_at}
 use Rattle.address_runs.specs.Sweep.{StartAtOrPast}
-use Rattle.address_runs.proofs.RunsLaws.{inside, behind}
+use Rattle.address_runs.proofs.RunsLaws.{inside, past_end}
 use Rattle.memblock_model.specs.Labels.{LabelView, Labels}
 use Rattle.memblock_frames.specs.declared.frames.RecordFrames.{RecordFrames}
 use Rattle.memblock_frames.specs.Frames.{frames_of_record, is_unclaimed, OverlapOnlyBelow}
@@ -42,7 +42,7 @@ passed_more b rs i at d fs ascend few is ends passed x above =
     let r : RunOf LabelView = get_or rs i d in
     let some = (ascend_at b rs i d ascend few).0 in
     let end : fs.end ≡ (r.base + (r.size - 1)) / 4096 + 1 = ap (λ (g : RecordFrames). g.end) is in
-    rw (← passed x above, add-one, drop-cons rs i d few, behind r x (omega arith)) refl
+    rw (← passed x above, add-one, drop-cons rs i d few, past_end r x (omega arith)) refl
 
 -- after the last record the table has no byte
 pub unclaimed_end : (rs : List (RunOf LabelView)) (i at x : ℕ) → length rs ≤ i → OverlapOnlyBelow rs i at → at ≤ x

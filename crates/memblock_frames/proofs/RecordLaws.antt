@@ -5,7 +5,7 @@ use Rattle.std.proofs.lemmas.Bool.{cases_Bool, eqb-true}
 use Rattle.phys_store.specs.Bytes.{ExtentView, byte_of, bytes_at}
 use Rattle.address_runs.specs.Runs.{RunOf, run_end, value_at}
 use Rattle.address_runs.specs.Sweep.{StartAtOrPast}
-use Rattle.address_runs.proofs.RunsLaws.{below, behind}
+use Rattle.address_runs.proofs.RunsLaws.{below, past_end}
 use Rattle.memblock_model.specs.Labels.{LabelView}
 use Rattle.memblock_ranges.specs.declared.region.Head.{Head}
 use Rattle.memblock_ranges.specs.declared.region.Region.{Region}
@@ -69,7 +69,7 @@ taken_none b [] i x d ascend few above = absurd (omega arith)
 taken_none b (r ∷ rs) zero x d ascend few above = refl
 taken_none b (r ∷ rs) (suc i) x d ascend few above =
     let far = start_at b (run_end r) rs i d ascend.3 ascend.2 (omega arith) in
-    rw (behind r x (omega (arith, far, above))) (taken_none b rs i x d ascend.3 (omega arith) above)
+    rw (past_end r x (omega (arith, far, above))) (taken_none b rs i x d ascend.3 (omega arith) above)
 
 -- the record that is read is that of the list
 pub region_fits : (s : List ExtentView) (h : Head) (i : ℕ) (g : Region) → HasRecords s h (2 ^ 64) → i < h.count

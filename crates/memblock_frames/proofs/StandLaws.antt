@@ -8,7 +8,7 @@ use Rattle.phys_store.specs.Bytes.{ExtentView, byte_of, bytes_at}
 use Rattle.address_runs.specs.Runs.{RunOf, run_end, lies_in, value_at, AreRuns}
 use Rattle.address_runs.specs.Edits.{IsEmptyFrom}
 use Rattle.address_runs.specs.Sweep.{StartAtOrPast}
-use Rattle.address_runs.proofs.RunsLaws.{inside, behind, rest_from}
+use Rattle.address_runs.proofs.RunsLaws.{inside, past_end, rest_from}
 use Rattle.memblock_model.specs.Labels.{LabelView}
 use Rattle.memblock_ranges.specs.declared.region.Region.{Region}
 use Rattle.memblock_ranges.specs.Encoding.{node_in, node_of_field, node_field, decode_region, region_of, records_at}
@@ -91,7 +91,7 @@ runs_ascend b (r ∷ rs) runs none =
       runs.0,
       low,
       rest_from r rs runs,
-      runs_ascend b rs runs.2 (λ x high. rw (behind r x (omega arith)) at (none x high)),
+      runs_ascend b rs runs.2 (λ x high. rw (past_end r x (omega arith)) at (none x high)),
     )
 
 pub stands_below : (t : TableView) (s : List ExtentView) (b : ℕ) → IsInStore t s → IsEmptyFrom b (value_at t.records)

@@ -8,7 +8,7 @@ use Rattle.bm_base.specs.Frames.{bytes_of_frame}
 use Rattle.bm_base.proofs.EachLaws.{each_in-same}
 use Rattle.address_runs.specs.Runs.{RunOf, run_end, lies_in, value_at, AreRuns}
 use Rattle.address_runs.specs.Sweep.{StartAtOrPast}
-use Rattle.address_runs.proofs.RunsLaws.{inside, behind, none_below, rest_from, another_value_at_run_end}
+use Rattle.address_runs.proofs.RunsLaws.{inside, past_end, none_below, rest_from, another_value_at_run_end}
 use Rattle.memblock_model.specs.Labels.{LabelView, Labels}
 use Rattle.memblock_frames.specs.Frames.{node_of_label, node_of_frame, is_unclaimed, free_node_in, frames_of_record}
 use Rattle.memblock_frames.specs.HeadRecords.{AreWholeFrames}
@@ -75,7 +75,7 @@ whole_by_value (r ∷ rs) runs same =
       | inl lt ↦
           let frame : 4096 * ((e - 1) / 4096) ≡ 4096 * (e / 4096) = omega (arith, lt) in
           let last : value_at all (e - 1) ≡ Some r.value = rw (inside r (e - 1) (omega arith) (omega arith)) refl in
-          let next : value_at all e ≡ value_at rs e = rw (behind r e (omega arith)) refl in
+          let next : value_at all e ≡ value_at rs e = rw (past_end r e (omega arith)) refl in
           absurd (another_value_at_run_end r rs runs
           (sym next ∙ same e ∙ sym (ap (value_at all) frame) ∙ sym (same (e - 1)) ∙ last))
       | inr ge ↦ omega (arith, ge)
@@ -84,6 +84,6 @@ whole_by_value (r ∷ rs) runs same =
       | inl lt ↦
           none_below e x rs runs.2 (rest_from r rs runs) lt
           ∙ sym (none_below e (4096 * (x / 4096)) rs runs.2 (rest_from r rs runs) (omega arith))
-      | inr ge ↦ rw (behind r x ge, behind r (4096 * (x / 4096)) (omega arith)) at (same x)
+      | inr ge ↦ rw (past_end r x ge, past_end r (4096 * (x / 4096)) (omega arith)) at (same x)
     ] in
     (base, omega arith, whole_by_value rs runs.2 rest)

@@ -36,7 +36,7 @@ pub fn next_claimed_frames(store: &Store, head: &Head, index: u64, at: u64) -> C
     ensures forward { index ≤ result.index }
     ensures passed { OverlapOnlyBelow (records_of_head store.now head.now) result.index at }
     ensures order { at ≤ result.first }
-    ensures behind { at < result.end }
+    ensures after { at < result.end }
     ensures some { result.first ≤ result.end }
     ensures not_empty { result.first < 2 ^ 52 → result.first < result.end }
     ensures unclaimed { (x : ℕ) → at ≤ x → x < result.first → x < 2 ^ 52

@@ -74,10 +74,10 @@ module _ {kernel : RangeView} {items : List Item} {t : TablesView} {at : AllocSe
   memory-enough (more.PiecesOf range) ends = enough-added range items space-of kept.fits (omega arith)
   memory-enough more.Two ends = enough-labelled items space-of kept.fits
 
-pub room-behind : (w : Which) (m : MaxNewRecords) (growth : Change)
+pub room-after : (w : Which) (m : MaxNewRecords) (growth : Change)
     (items : List Item) {kernel : RangeView} {longer : List Item} {u : TablesView}
     {at : AllocSettings} (r : Result (Unit {0}) Refusal) → HasRoomAfter w (new_records_by_items w m) growth items
     → EndsAsChange r items longer (make_table_room w (new_records_by_items w m) growth) → TablesMatchItems kernel longer u at
     → OnOk r (HasRoomFor m (table_in w u))
-room-behind w m growth items (Ok x) law ends kept = room-of kept w m (ap (is_full w (new_records_by_items w m)) ends.1 ∙ law ends.0)
-room-behind w m growth items (Err e) law ends kept = tt
+room-after w m growth items (Ok x) law ends kept = room-of kept w m (ap (is_full w (new_records_by_items w m)) ends.1 ∙ law ends.0)
+room-after w m growth items (Err e) law ends kept = tt

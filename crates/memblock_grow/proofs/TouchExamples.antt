@@ -21,6 +21,6 @@ over_the_memory_table = (which.Memory, (73728, refl))
 last_byte_of_the_reserved_table : OverlapsTableOfItems image (record { base = 80895; size = 1 }) begun
 last_byte_of_the_reserved_table = (which.Reserved, (80895, refl))
 
-behind_the_reserved_table : OverlapsTableOfItems image (record { base = 80896; size = 1024 }) begun → ⊥
-behind_the_reserved_table (which.Memory, (x, both)) = grind (arith, nat_tests, both)
-behind_the_reserved_table (which.Reserved, (x, both)) = grind (arith, nat_tests, both)
+after_the_reserved_table : OverlapsTableOfItems image (record { base = 80896; size = 1024 }) begun → ⊥
+after_the_reserved_table (which.Memory, (x, both)) = grind (arith, nat_tests, both)
+after_the_reserved_table (which.Reserved, (x, both)) = grind (arith, nat_tests, both)

@@ -26,8 +26,8 @@ pub struct AllocSettings {
 fn round_up_to_frames(bytes: u64) -> Option<u64>
     ensures { SomeIff result (round_up_to_frames bytes < 2 ^ 64) (round_up_to_frames bytes) }
 {
-    let behind = bytes.checked_add(FRAME_SIZE - 1)?;
-    Some(behind / FRAME_SIZE * FRAME_SIZE)
+    let padded = bytes.checked_add(FRAME_SIZE - 1)?;
+    Some(padded / FRAME_SIZE * FRAME_SIZE)
 }
 
 /// Returns the greatest address at which the query fits in mirrored memory, or the least if

@@ -22,9 +22,9 @@ module _ (f g : ℕ → ℕ) (a i : ℕ) (below : (x : ℕ) → a ≤ x → x < 
       ((x : ℕ) → a + 24 * i + 24 ≤ x → x < a + 24 * (i + suc m) → g x ≡ f x) →
       records_at g a (i + suc m) ≡ set (records_at f a (i + suc m)) i (decode_record bs)
   unfolding records_at
-  put_list m bs new behind =
+  put_list m bs new after =
       let back : records_at g (a + 24 * i + 24) m ≡ records_at f (a + 24 * i + 24) m =
-      same_records f g (a + 24 * i + 24) (a + 24 * i + 24) m (λ k less. behind (a + 24 * i + 24 + k) (omega arith) (omega arith)) in
+      same_records f g (a + 24 * i + 24) (a + 24 * i + 24) m (λ k less. after (a + 24 * i + 24 + k) (omega arith) (omega arith)) in
       split_records g a i (suc m) ∙ rw (front, new, back) refl
       ∙ sym (ap (λ (rs : List (RunOf LabelView)). set rs i (decode_record bs)) (split_records f a i (suc m))
       ∙ set_at (records_at f a i) (decode_record (bytes_at f (a + 24 * i) 24)) (records_at f (a + 24 * i + 24) m) (decode_record bs) i
@@ -211,7 +211,7 @@ close_table s t u place room count i n from to rest at size table less v w from_
         ];
         zeros = λ x low high. elim (cases_lt x (place + 24 * count)) [
           | inl freed ↦ ap g (omega (arith, at_is, low)) ∙ w.within (x - at) (omega (arith, at_is, size_is, low, freed))
-          | inr behind ↦ off x (grind (arith, nat_tests)) ∙ table.zeros x behind high
+          | inr after ↦ off x (grind (arith, nat_tests)) ∙ table.zeros x after high
         ];
         prepared = λ x low high. w.ready x ∙ v.ready x ∙ table.prepared x low high;
       };

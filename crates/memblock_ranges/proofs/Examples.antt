@@ -1,6 +1,6 @@
 -- Small tables, computed or proved by the laws: examples of bytes, of one table and of both.
 use Rattle.std.proofs.Common.{◌≡◌, ℕ, ◌-◌, ◌^◌, ◌<◌, true, false, Some, None, List, [], ◌∷◌, ◌++◌, replicate, refl, ap, arith}
-use Rattle.address_runs.proofs.RunsLaws.{behind}
+use Rattle.address_runs.proofs.RunsLaws.{past_end}
 use Rattle.phys_store.specs.Bytes.{ExtentView, byte_of, bytes_at}
 use Rattle.address_runs.specs.Runs.{RunOf, AreRuns}
 use Rattle.memblock_model.specs.Labels.{LabelView, plain_label, with_node, with_mirror}
@@ -96,7 +96,7 @@ table_examples = (refl, refl)
 ordered : AreRecords [] × AreRecords (first_run ∷ [])
 ordered = (
   record { runs = tt; within = λ x le. refl },
-  record { runs = (omega arith, tt, tt); within = λ x le. rw (behind first_run x (omega (arith, le))) refl },
+  record { runs = (omega arith, tt, tt); within = λ x le. rw (past_end first_run x (omega (arith, le))) refl },
 )
 
 not_lent : ¬ AreRecordBytes first_record 2

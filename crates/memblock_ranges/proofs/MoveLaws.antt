@@ -41,7 +41,7 @@ moves s t u v g place used free size table small prepared apart copied cleared z
     let there : (k : ℕ) → k < 24 * g.count → byte_of v (place + k) ≡ byte_of s (old + k) = λ k less.
     off (place + k) (omega arith) (omega arith) ∙ cleared.outside (place + k) (grind (arith, nat_tests))
     ∙ copied.within k (omega (arith, used_is, less)) in
-    let behind : (x : ℕ) → place + 24 * g.count ≤ x → x < place + 48 * g.room → byte_of v x ≡ 0 = λ x low high.
+    let after : (x : ℕ) → place + 24 * g.count ≤ x → x < place + 48 * g.room → byte_of v x ≡ 0 = λ x low high.
     let here : place + used + (x - (place + used)) ≡ x = omega (arith, used_is, low) in
     off x (omega arith) high ∙ ap (byte_of u) (sym here)
     ∙ cleared.within (x - (place + used)) (omega (arith, used_is, free_is, low, high)) in
@@ -56,7 +56,7 @@ moves s t u v g place used free size table small prepared apart copied cleared z
             let here : place + 24 * i + k ≡ place + (24 * i + k) = omega arith in
             let from : old + (24 * i + k) ≡ old + 24 * i + k = omega arith in
             ap (byte_of v) here ∙ there (24 * i + k) (omega arith) ∙ ap (byte_of s) from) (table.records i less);
-        zeros = λ x low high. behind x low (omega (arith, high));
+        zeros = λ x low high. after x low (omega (arith, high));
         prepared = λ x low high. ready x ∙ prepared x low (omega (arith, high));
       };
       place_is = refl;

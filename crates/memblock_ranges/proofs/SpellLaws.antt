@@ -63,31 +63,31 @@ unfolding encode_fields
 length-fields_of base size flags node =
     grind (arith, common_steps, long8 base, long8 size, long4 flags, long4 node)
 
-behind_two : (a b rest : List ℕ) → length a ≡ 8 → length b ≡ 8 → drop 16 (a ++ (b ++ rest)) ≡ rest
-behind_two a b rest first second =
+after_two : (a b rest : List ℕ) → length a ≡ 8 → length b ≡ 8 → drop 16 (a ++ (b ++ rest)) ≡ rest
+after_two a b rest first second =
     ap (drop 16) (sym (append_assoc a b rest)) ∙ drop_at (a ++ b) rest 16 (omega (arith, first, second, length-append a b))
 
-behind_three : (a b c rest : List ℕ) → length a ≡ 8 → length b ≡ 8 → length c ≡ 4 → drop 20 (a ++ (b ++ (c ++ rest))) ≡ rest
-behind_three a b c rest first second third =
+after_three : (a b c rest : List ℕ) → length a ≡ 8 → length b ≡ 8 → length c ≡ 4 → drop 20 (a ++ (b ++ (c ++ rest))) ≡ rest
+after_three a b c rest first second third =
     ap (λ (l : List ℕ). drop 20 (a ++ l)) (sym (append_assoc b c rest)) ∙ ap (drop 20) (sym (append_assoc a (b ++ c) rest))
     ∙ drop_at (a ++ (b ++ c)) rest 20 (omega (arith, first, second, third, length-append a (b ++ c), length-append b c))
 
-behind_base : (base size flags node : ℕ) → drop 8 (encode_fields base size flags node) ≡ little_bytes 8 size
+after_base : (base size flags node : ℕ) → drop 8 (encode_fields base size flags node) ≡ little_bytes 8 size
     ++ (little_bytes 4 flags ++ little_bytes 4 node)
 unfolding encode_fields
-behind_base base size flags node =
+after_base base size flags node =
     drop_at (little_bytes 8 base) (little_bytes 8 size ++ (little_bytes 4 flags ++ little_bytes 4 node)) 8 (long8 base)
 
-behind_size : (base size flags node : ℕ) → drop 16 (encode_fields base size flags node) ≡ little_bytes 4 flags ++ little_bytes 4 node
+after_size : (base size flags node : ℕ) → drop 16 (encode_fields base size flags node) ≡ little_bytes 4 flags ++ little_bytes 4 node
 unfolding encode_fields
-behind_size base size flags node = behind_two (little_bytes 8 base) (little_bytes 8 size) (little_bytes 4 flags ++ little_bytes 4 node)
+after_size base size flags node = after_two (little_bytes 8 base) (little_bytes 8 size) (little_bytes 4 flags ++ little_bytes 4 node)
     (long8 base)
     (long8 size)
 
-behind_flags : (base size flags node : ℕ) → drop 20 (encode_fields base size flags node) ≡ little_bytes 4 node
+after_flags : (base size flags node : ℕ) → drop 20 (encode_fields base size flags node) ≡ little_bytes 4 node
 unfolding encode_fields
-behind_flags base size flags node =
-    behind_three (little_bytes 8 base) (little_bytes 8 size) (little_bytes 4 flags) (little_bytes 4 node) (long8 base) (long8 size)
+after_flags base size flags node =
+    after_three (little_bytes 8 base) (little_bytes 8 size) (little_bytes 4 flags) (little_bytes 4 node) (long8 base) (long8 size)
     (long4 flags)
 
 -- what was written is read back
@@ -99,18 +99,18 @@ base-fields_of base size flags node small = little_number-reads_back 8 base
 pub size-fields_of : (base size flags node : ℕ) → size < 2 ^ 64 → size_in (encode_fields base size flags node) ≡ size
 unfolding size_in
 size-fields_of base size flags node small =
-    ap (little_number 8) (behind_base base size flags node) ∙ little_number-reads_back 8 size
+    ap (little_number 8) (after_base base size flags node) ∙ little_number-reads_back 8 size
     (little_bytes 4 flags ++ little_bytes 4 node) small
 
 pub flags-fields_of : (base size flags node : ℕ) → flags < 2 ^ 32 → flags_in (encode_fields base size flags node) ≡ flags
 unfolding flags_in
 flags-fields_of base size flags node small =
-    ap (little_number 4) (behind_size base size flags node) ∙ little_number-reads_back 4 flags (little_bytes 4 node) small
+    ap (little_number 4) (after_size base size flags node) ∙ little_number-reads_back 4 flags (little_bytes 4 node) small
 
 pub node-fields_of : (base size flags node : ℕ) → node < 2 ^ 32 → node_in (encode_fields base size flags node) ≡ node
 unfolding node_in
 node-fields_of base size flags node small =
-    ap (little_number 4) (behind_flags base size flags node) ∙ little_number-reads_back 4 node [] small
+    ap (little_number 4) (after_flags base size flags node) ∙ little_number-reads_back 4 node [] small
 
 -- the flags of a label are at most 2
 few_flags : (label : LabelView) → flags_field label ≤ 2

@@ -4,7 +4,7 @@ use Rattle.std.proofs.lemmas.Bool.{cases_lt}
 use Rattle.std.proofs.lemmas.Bool.Decides.{nat_tests}
 use Rattle.address_runs.specs.Runs.{RunOf, run_end, value_at, AreRuns, IsRunsOf}
 use Rattle.address_runs.specs.Sweep.{StartAtOrPast, IsSweptTo}
-use Rattle.address_runs.proofs.RunsLaws.{inside, behind, none_below, rest_from, another_value_at_run_end, start_zero}
+use Rattle.address_runs.proofs.RunsLaws.{inside, past_end, none_below, rest_from, another_value_at_run_end, start_zero}
 use Rattle.address_runs.proofs.SweepLaws.{swept_over, swept_all}
 use Rattle.run_edits.specs.Records.{run_or_none}
 use Rattle.run_edits.proofs.JoinLaws.{swept_stretch}
@@ -45,15 +45,15 @@ module _ (f : Labels) (at : ℕ) (r : RunOf LabelView) (rs : List (RunOf LabelVi
       let starts : StartAtOrPast r.base (r ∷ rs) = omega arith in
       sym (turns.each x low) ∙ none_below r.base x (r ∷ rs) turns.runs starts high
 
-  behind_run : (x : ℕ) → run_end r ≤ x → value_at rs x ≡ f x
-  behind_run x past =
+  after_run : (x : ℕ) → run_end r ≤ x → value_at rs x ≡ f x
+  after_run x past =
       let starts = turns.starts in
       let some : 0 < r.size = turns.runs.0 in
-      let off : value_at (r ∷ rs) x ≡ value_at rs x = rw (behind r x past) refl in
+      let off : value_at (r ∷ rs) x ≡ value_at rs x = rw (past_end r x past) refl in
       sym off ∙ turns.each x (omega arith)
 
   end_other : f (run_end r) ≢ Some r.value
-  end_other same = another_value_at_run_end r rs turns.runs (behind_run (run_end r) (omega arith) ∙ same)
+  end_other same = another_value_at_run_end r rs turns.runs (after_run (run_end r) (omega arith) ∙ same)
 
   first_other : 0 < r.base → f (r.base - 1) ≢ f r.base
   first_other some =
@@ -72,7 +72,7 @@ module _ (f : Labels) (at : ℕ) (r : RunOf LabelView) (rs : List (RunOf LabelVi
       record {
         runs = turns.runs.2;
         starts = rest_from r rs turns.runs;
-        each = behind_run;
+        each = after_run;
         turn = λ some same. end_other (sym same ∙ in_run (run_end r - 1) (omega arith) (omega arith));
       }
 

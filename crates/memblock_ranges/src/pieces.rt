@@ -23,11 +23,11 @@ pub fn count_pieces<T: Rows<Record>>(table: &T, range: &Range) -> u64
     while from < until {
         let to = next.min(until);
         read = skip_ended(table, read, to);
-        let (there, behind) = value_and_end(table, read, to);
+        let (there, after) = value_and_end(table, read, to);
         count += ends_piece(bare, there.is_none(), to < until);
         from = to;
         bare = there.is_none();
-        next = behind;
+        next = after;
     }
     count
 }

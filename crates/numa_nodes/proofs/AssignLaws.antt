@@ -32,11 +32,11 @@ use Rattle.numa_nodes.specs.Steps.{CanGetNodes}
 abbrev ranges_in : SratNodesView → List Item → List NumaBlock
 ranges_in found items = node_ranges (limit_of items) found
 
-abbrev pub behind : SratNodesView → Unit {0} → StageStep StageCause NodesView
-behind found done = read_items_allocating (λ items. nodes_with_memory (memory_of items)) >>= λ nodes. place_data_of_nodes found nodes
+abbrev pub after : SratNodesView → Unit {0} → StageStep StageCause NodesView
+after found done = read_items_allocating (λ items. nodes_with_memory (memory_of items)) >>= λ nodes. place_data_of_nodes found nodes
 
 abbrev by_ranges : SratNodesView → List NumaBlock → StageStep StageCause NodesView
-by_ranges found ranges = fold_steps set_block_node tt ranges >>= behind found
+by_ranges found ranges = fold_steps set_block_node tt ranges >>= after found
 
 abbrev nodes_in : List Item → List ℕ
 nodes_in items = nodes_with_memory (memory_of items)
@@ -63,22 +63,22 @@ pub by-ranges : (e : StageStop) (old new : List Item) (found : SratNodesView)
     → EndsAsStage {A = NodesView} (assign_nodes_by found) error_of_stage_cause (Err e) old new
 by-ranges e old new found was =
     by-listed (Err e) old new found
-    (ends-first e error_of_stage_cause old new (fold_steps set_block_node tt (ranges_in found old)) (behind found) was)
+    (ends-first e error_of_stage_cause old new (fold_steps set_block_node tt (ranges_in found old)) (after found) was)
 
 -- how the stage ends after the ranges have got their nodes
 module _ (old mid : List Item) (found : SratNodesView)
     (was : EndsAsStage {A = Unit {0}} (fold_steps set_block_node tt (node_ranges (limit_of old) found)) error_of_stage_cause
     (Ok tt) old mid) where
-  by-behind : (r : Result NodesView StageStop) (new : List Item) → EndsAsStage (behind found tt) error_of_stage_cause r mid new
+  by-after : (r : Result NodesView StageStop) (new : List Item) → EndsAsStage (after found tt) error_of_stage_cause r mid new
       → EndsAsStage (assign_nodes_by found) error_of_stage_cause r old new
-  by-behind r new rest =
+  by-after r new rest =
       by-listed r old new found
-      (ends-second tt r error_of_stage_cause old mid new (fold_steps set_block_node tt (ranges_in found old)) (behind found) was rest)
+      (ends-second tt r error_of_stage_cause old mid new (fold_steps set_block_node tt (ranges_in found old)) (after found) was rest)
 
   -- this program runs out of memory for the list of nodes that have memory
   pub data-wanting : EndsAsStage {A = NodesView} (assign_nodes_by found) error_of_stage_cause (Err stop.Memory) old mid
   data-wanting =
-      by-behind (Err stop.Memory) mid
+      by-after (Err stop.Memory) mid
       (ends-first stop.Memory error_of_stage_cause mid mid (read_items_allocating nodes_in) (place_data_of_nodes found)
       (ends-wanting nodes_in error_of_stage_cause mid))
 
@@ -87,7 +87,7 @@ module _ (old mid : List Item) (found : SratNodesView)
       → EndsAsStage (place_data_of_nodes found (nodes_in mid)) error_of_stage_cause r mid new
       → EndsAsStage (assign_nodes_by found) error_of_stage_cause r old new
   by-data r new rest =
-      by-behind r new
+      by-after r new
       (ends-second (nodes_in mid) r error_of_stage_cause mid mid new (read_items_allocating nodes_in) (place_data_of_nodes found)
       (ends-listed nodes_in error_of_stage_cause mid) rest)
 

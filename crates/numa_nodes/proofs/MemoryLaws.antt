@@ -29,7 +29,7 @@ use Rattle.stage_steps.proofs.QuietLaws.{quiet-appended_limit, quiet-appended_me
 use Rattle.srat_nodes.specs.NodeAt.{NumaBlock}
 use Rattle.srat_nodes.specs.SratNodesView.{SratNodesView, judge_srat}
 use Rattle.numa_nodes.specs.Assignment.{NodesView, assign_nodes, assign_nodes_by, place_node_data, set_block_node, is_memory_byte, node_data_request, nodes_view_from_judgement, nodes_with_memory, node_ranges, place_data_of_nodes}
-use Rattle.numa_nodes.proofs.AssignLaws.{behind}
+use Rattle.numa_nodes.proofs.AssignLaws.{after}
 
 -- the growth of the memory table that may come before a range gets its node
 abbrev growth : List Item → ChangeEffect
@@ -117,8 +117,8 @@ quiet-with_data : (found : SratNodesView) (nodes : List ℕ) → KeepsMemory (pl
 quiet-with_data found nodes =
     quiet-bind _ _ (quiet-turn place_node_data quiet-data tt nodes) (λ done. quiet-returns (nodes_view_from_judgement found nodes))
 
-quiet-behind : (found : SratNodesView) (done : Unit {0}) → KeepsMemory (behind found done)
-quiet-behind found done =
+quiet-after : (found : SratNodesView) (done : Unit {0}) → KeepsMemory (after found done)
+quiet-after found done =
     quiet-bind _ _ (quiet-listed (λ items. nodes_with_memory (memory_of items))) (quiet-with_data found)
 
 -- what neither quiet steps nor nodes change, the whole stage doesn't change
@@ -149,9 +149,9 @@ module _ {V : Type 0} (seen_of : List Item → V)
       let ranges : List NumaBlock = node_ranges (limit_of items) found in
       let start : List Item = items ++ [] in
       let d : StepEffect StageCause (Unit {0}) = fold_steps set_block_node tt ranges start in
-      keeps-going start d d.answer (λ a. behind found a (items_after_step start d)) (keeps-turn ranges start)
-      (λ a. quiet (items_after_step start d) (behind found a (items_after_step start d)).steps
-      ((quiet-behind found a).each (items_after_step start d)))
+      keeps-going start d d.answer (λ a. after found a (items_after_step start d)) (keeps-turn ranges start)
+      (λ a. quiet (items_after_step start d) (after found a (items_after_step start d)).steps
+      ((quiet-after found a).each (items_after_step start d)))
       ∙ ap seen_of (append-nil items)
 
 pub keeps-memory : (table : Option SratView) (off : Bool) (items : List Item) (x : ℕ)
@@ -201,29 +201,29 @@ data-nodes found nodes items set_range_node answered =
 
 ended-by : (items : List Item) (found : SratNodesView) (set_range_node : NodesView) (d : StepEffect StageCause (Unit {0}))
     → (d.answer ≡ Ok tt → memory_of (items_after_step items d) ≡ noded_all (node_ranges (limit_of items) found) (memory_of items))
-    → (continue_if_ok d.steps d.answer (λ a. behind found a (items_after_step items d))).answer ≡ Ok set_range_node
+    → (continue_if_ok d.steps d.answer (λ a. after found a (items_after_step items d))).answer ≡ Ok set_range_node
     → IsBehind items found
-    (append_groups items (continue_if_ok d.steps d.answer (λ a. behind found a (items_after_step items d))).steps) set_range_node
+    (append_groups items (continue_if_ok d.steps d.answer (λ a. after found a (items_after_step items d))).steps) set_range_node
 ended-by items found set_range_node d all answered =
     let mid : List Item = items_after_step items d in
-    let last : StepEffect StageCause NodesView = behind found tt mid in
-    let first = went-on d.steps d.answer (λ a. behind found a mid) set_range_node answered in
+    let last : StepEffect StageCause NodesView = after found tt mid in
+    let first = went-on d.steps d.answer (λ a. after found a mid) set_range_node answered in
     let still = ap memory_of (append_groups-append items d.steps last.steps)
-    ∙ quiet-appended_memory mid last.steps ((quiet-behind found tt).each mid) in
+    ∙ quiet-appended_memory mid last.steps ((quiet-after found tt).each mid) in
     rw first.1 (record {
       memory = still ∙ all first.1;
       nodes = data-nodes found (nodes_with_memory (memory_of mid)) (mid ++ []) set_range_node (rw first.1 at answered)
           ∙ ap nodes_with_memory (sym still);
     })
 
-pub behind-answer : (table : Option SratView) (off : Bool) (items : List Item) (set_range_node : NodesView)
+pub after-answer : (table : Option SratView) (off : Bool) (items : List Item) (set_range_node : NodesView)
     → (assign_nodes table off items).answer ≡ Ok set_range_node
     → IsBehind items (judge_srat (is_memory_byte items) off table) (items_after_step items (assign_nodes table off items)) set_range_node
 unfolding assign_nodes assign_nodes_by
-behind-answer table off items set_range_node answered =
+after-answer table off items set_range_node answered =
     let found : SratNodesView = judge_srat (is_memory_byte items) off table in
     let ranges : List NumaBlock = node_ranges (limit_of items) found in
-    let from : List Item → StepEffect StageCause NodesView = λ start. (fold_steps set_block_node tt ranges >>= behind found) start in
+    let from : List Item → StepEffect StageCause NodesView = λ start. (fold_steps set_block_node tt ranges >>= after found) start in
     subst (λ (start : List Item). (from start).answer ≡ Ok set_range_node
     → IsBehind items found (items_after_step start (from start)) set_range_node)
     (sym (append-nil items))

@@ -25,7 +25,7 @@ use Rattle.stage_steps.specs.Nodes.{IsConstantInFrames, IsMemoryWithNodes}
 use Rattle.numa_nodes.specs.Assignment.{NodesView, assign_nodes, node_ranges}
 use Rattle.numa_nodes.specs.Steps.{CanGetNodes}
 use Rattle.numa_nodes.proofs.AssignLaws.{ranges-cases}
-use Rattle.numa_nodes.proofs.MemoryLaws.{behind-answer, noded_all}
+use Rattle.numa_nodes.proofs.MemoryLaws.{after-answer, noded_all}
 
 -- the label after it was given the node; it is unchanged if there is no node to give
 abbrev relabel : Option ℕ → Option LabelView → Option LabelView
@@ -189,5 +189,5 @@ pub answer-noded : (reach : ℕ) (table : Option SratView) (off : Bool) (items :
     → IsEmptyFrom reach (memory_of items) → IsEmptyFrom (limit_of items) (memory_of items)
     → IsMemoryWithNodes reach (memory_of (items_after_step items (assign_nodes table off items)))
 answer-noded reach table off items noded answered near frames within low =
-    rw (behind-answer table off items noded answered).memory
+    rw (after-answer table off items noded answered).memory
     (given-noded reach (limit_of items) (memory_of items) off table near frames within low)

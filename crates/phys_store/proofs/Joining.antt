@@ -134,15 +134,15 @@ pub nth_extent-fits : (ps : List ExtentView) (i : ℕ) → AreSortedAndApart 0 p
 nth_extent-fits ps i apart count = (placed 0 ps i (nth_extent ps i) apart count (there ps i count)).2
 
 -- the extents that the loop has joined so far, and the addresses that they and the range make up
-pub record Hull (ps : List ExtentView) (r : RangeView) (first behind from to : ℕ) : Type 0 where
-  pub order : first ≤ behind
-  pub most : behind ≤ length ps
+pub record Hull (ps : List ExtentView) (r : RangeView) (first after from to : ℕ) : Type 0 where
+  pub order : first ≤ after
+  pub most : after ≤ length ps
   pub least : from ≤ r.base
   pub end : end_of r ≤ to
   pub small : to < 2 ^ 64
   pub below : (i : ℕ) → i < first → end_of_extent (nth_extent ps i) < from
-  pub low : (i : ℕ) → first ≤ i → i < behind → from ≤ (nth_extent ps i).base
-  pub high : (i : ℕ) → first ≤ i → i < behind → end_of_extent (nth_extent ps i) ≤ to
+  pub low : (i : ℕ) → first ≤ i → i < after → from ≤ (nth_extent ps i).base
+  pub high : (i : ℕ) → first ≤ i → i < after → end_of_extent (nth_extent ps i) ≤ to
   pub ready : (x : ℕ) → from ≤ x → x < to → IsTrue (covers r x || is_prepared_at ps x)
 
 -- an earlier extent ends at or below the end of a later one
@@ -155,53 +155,53 @@ ends_rise ps i j apart order count =
     ]
 
 -- the next extent is joined if it begins at or below the end of those joined so far
-pub hull_more : (ps : List ExtentView) (r : RangeView) (first behind from to : ℕ) → AreSortedAndApart 0 ps → behind < length ps →
-    r.base ≤ end_of_extent (nth_extent ps first) → (nth_extent ps behind).base ≤ to → Hull ps r first behind from to →
-    Hull ps r first (behind + 1) (min from (nth_extent ps behind).base) (max to (end_of_extent (nth_extent ps behind)))
-hull_more ps r first behind from to apart count reach touches h =
-    let p = nth_extent ps behind in
-    let ends : end_of_extent p < 2 ^ 64 = nth_extent-fits ps behind apart count in
-    let far : r.base ≤ end_of_extent p = omega (arith, reach, ends_rise ps first behind apart h.order count) in
+pub hull_more : (ps : List ExtentView) (r : RangeView) (first after from to : ℕ) → AreSortedAndApart 0 ps → after < length ps →
+    r.base ≤ end_of_extent (nth_extent ps first) → (nth_extent ps after).base ≤ to → Hull ps r first after from to →
+    Hull ps r first (after + 1) (min from (nth_extent ps after).base) (max to (end_of_extent (nth_extent ps after)))
+hull_more ps r first after from to apart count reach touches h =
+    let p = nth_extent ps after in
+    let ends : end_of_extent p < 2 ^ 64 = nth_extent-fits ps after apart count in
+    let far : r.base ≤ end_of_extent p = omega (arith, reach, ends_rise ps first after apart h.order count) in
     record {
       order = omega (arith, h.order);
       most = omega arith;
       least = omega (arith, h.least);
       end = omega (arith, h.end);
       small = omega (arith, h.small, ends);
-      below = λ i less. let old = h.below i less in let now = before 0 ps i behind apart (omega (arith, h.order)) count in omega arith;
-      low = λ i from_first to_next. elim (cases_lt i behind) [
+      below = λ i less. let old = h.below i less in let now = before 0 ps i after apart (omega (arith, h.order)) count in omega arith;
+      low = λ i from_first to_next. elim (cases_lt i after) [
         | inl old ↦ let is = h.low i from_first old in omega arith
-        | inr new ↦ let is : i ≡ behind = omega arith in rw is (omega arith)
+        | inr new ↦ let is : i ≡ after = omega arith in rw is (omega arith)
       ];
-      high = λ i from_first to_next. elim (cases_lt i behind) [
+      high = λ i from_first to_next. elim (cases_lt i after) [
         | inl old ↦ let is = h.high i from_first old in omega arith
-        | inr new ↦ let is : i ≡ behind = omega arith in rw is (omega arith)
+        | inr new ↦ let is : i ≡ after = omega arith in rw is (omega arith)
       ];
       ready = λ x low high. elim (cases_lt x from) [
         | inl under ↦ or_right (covers r x) (is_prepared_at ps x)
-            (read-at 0 ps behind p x apart count (there ps behind count) (omega arith) (omega (arith, h.least))).1
+            (read-at 0 ps after p x apart count (there ps after count) (omega arith) (omega (arith, h.least))).1
         | inr over ↦ elim (cases_lt x to) [
           | inl within ↦ h.ready x over within
           | inr above ↦ or_right (covers r x) (is_prepared_at ps x)
-              (read-at 0 ps behind p x apart count (there ps behind count) (omega arith) (omega arith)).1
+              (read-at 0 ps after p x apart count (there ps after count) (omega arith) (omega arith)).1
         ]
       ];
     }
 
 -- if the loop joins no further extent, it has joined exactly those that the range overlaps or
 -- touches
-pub hull_joins : (ps : List ExtentView) (r : RangeView) (first behind from to : ℕ) → AreSortedAndApart 0 ps
-    → Hull ps r first behind from to →
-    (behind < length ps → to < (nth_extent ps behind).base) → AreTouchedExtents ps first behind from to
-hull_joins ps r first behind from to apart h stop = record {
+pub hull_joins : (ps : List ExtentView) (r : RangeView) (first after from to : ℕ) → AreSortedAndApart 0 ps
+    → Hull ps r first after from to →
+    (after < length ps → to < (nth_extent ps after).base) → AreTouchedExtents ps first after from to
+hull_joins ps r first after from to apart h stop = record {
   order = h.order;
   most = h.most;
   below = h.below;
   low = h.low;
   high = h.high;
-  above = λ i least count. elim (cases_lt behind i) [
-    | inl later ↦ let far = before 0 ps behind i apart later count in let here = stop (omega arith) in omega (arith, here, far)
-    | inr same ↦ let is : i ≡ behind = omega arith in rw is (stop (omega arith))
+  above = λ i least count. elim (cases_lt after i) [
+    | inl later ↦ let far = before 0 ps after i apart later count in let here = stop (omega arith) in omega (arith, here, far)
+    | inr same ↦ let is : i ≡ after = omega arith in rw is (stop (omega arith))
   ];
 }
 
@@ -221,13 +221,13 @@ removed : (xs ys : List Extent) (x : Extent) → remove (xs ++ x ∷ ys) (suc (l
 removed [] ys x = refl
 removed (a ∷ xs) ys x = ap (λ (l : List Extent). a ∷ l) (removed xs ys x)
 
-pub removed_behind : (es new now : List Extent) (x : Extent) (f k : ℕ) → f ≤ length es → now ≡ take f es ++ x ∷ drop k es →
+pub removed_after : (es new now : List Extent) (x : Extent) (f k : ℕ) → f ≤ length es → now ≡ take f es ++ x ∷ drop k es →
     new ≡ remove now (f + 1) →
     new ≡ take f es ++ x ∷ drop (k + 1) es
-removed_behind es new now x f k most was is =
+removed_after es new now x f k most was is =
     let front : length (take f es) ≡ f = length-take f es ∙ omega arith in
-    let behind : f + 1 ≡ suc (length (take f es)) = omega (arith, front) in
-    is ∙ ap (λ (l : List Extent). remove l (f + 1)) was ∙ ap (remove (take f es ++ x ∷ drop k es)) behind
+    let after : f + 1 ≡ suc (length (take f es)) = omega (arith, front) in
+    is ∙ ap (λ (l : List Extent). remove l (f + 1)) was ∙ ap (remove (take f es ++ x ∷ drop k es)) after
     ∙ removed (take f es) (drop k es) x ∙ ap (λ (l : List Extent). take f es ++ x ∷ l) (drop-drop 1 k es)
 
 -- what is true after a range has been prepared

@@ -55,7 +55,7 @@ pub moved_up : (old more_of new : List ℕ) (from more end : ℕ) → end ≡ le
     more_of ≡ old ++ slice_range old (end - more) (length old) → length new ≡ length more_of →
     CopiedTo more_of new from (from + more) (end - more - from) → SameFrom more_of new (from + more + (end - more - from)) →
     drop (from + more) new ≡ drop from old
-moved_up old more_of new from more end at fits is len copied behind =
+moved_up old more_of new from more end at fits is len copied after =
     let cut : ℕ = end - more in
     let all : more_of ≡ old ++ take (length old - cut) (drop cut old) = is in
     let long : length more_of ≡ length old + more =
@@ -68,7 +68,7 @@ moved_up old more_of new from more end at fits is len copied behind =
       | inl low ↦ copied (from + more + k) 0 (omega arith) (omega (arith, low))
           ∙ ap (λ j. get_or more_of j 0) (omega arith) ∙ ap (λ (l : List ℕ). get_or l (from + k) 0) all
           ∙ append_low old (take (length old - cut) (drop cut old)) (from + k) (omega (arith, low, at)) ∙ sym (get_or-drop from old k 0)
-      | inr high ↦ behind (from + more + k) 0 (omega (arith, high, fits))
+      | inr high ↦ after (from + more + k) 0 (omega (arith, high, fits))
           ∙ ap (λ (l : List ℕ). get_or l (from + more + k) 0) all
           ∙ append_part old cut (from + more + k) (omega (arith, at)) (omega (arith, high, at, fits)) (omega (arith, inner, at, fits))
           ∙ ap (λ j. get_or old j 0) (omega (arith, high, at, fits)) ∙ sym (get_or-drop from old k 0)
@@ -98,8 +98,8 @@ widened p low high f1 f2 up xs zs ys some bytes from to room at over all len tol
                 ∙ ap (λ j. get_or xs j 0) (omega (arith, rest, at, room)) ∙ sym (get_or-drop f1 xs (low + k - p.base) 0)
                 ∙ ap (λ (l : List ℕ). get_or l (low + k - p.base) 0) bytes
                 ∙ sym (rw (is_in_extent-in p (low + k) (omega (arith, rest, at, room, from)) (omega (arith, inner, at, room, from))) refl)
-            | inr behind ↦ append_high xs up (f2 + k) (omega (arith, long, behind, at, room))
-                ∙ sym (rw (is_in_extent-above p (low + k) (omega (arith, behind, at, room, from))) refl)
+            | inr after ↦ append_high xs up (f2 + k) (omega (arith, long, after, at, room))
+                ∙ sym (rw (is_in_extent-above p (low + k) (omega (arith, after, at, room, from))) refl)
           ]
     ])
 
@@ -199,7 +199,7 @@ united es now ds new p w none e f b k from to apart joins order least below valu
     let count : k < length es = omega (arith, joins.most, length-map es extent_view, below) in
     let once : now ≡ set es k none = after ∙ set-set es k w none in
     let front : take f now ≡ take f es = ap (take f) once ∙ take-set-le f es k none least in
-    let behind : drop b now ≡ drop b es = ap (drop b) once ∙ drop-set-lt b es k none below in
+    let tail : drop b now ≡ drop b es = ap (drop b) once ∙ drop-set-lt b es k none below in
     let whole_part : map extent_view (take n (drop f es)) ≡ take n (drop f ps) =
     sym (take-map extent_view n (drop f es)) ∙ ap (take n) (sym (drop-map extent_view f es)) in
     let part : map extent_view (take n (drop f ds)) ≡ set (take n (drop f ps)) i (extent_view none) =
@@ -220,7 +220,7 @@ united es now ds new p w none e f b k from to apart joins order least below valu
     ∙ taken_out 0 (take n (drop f ps)) i (extent_view p) (extent_view w) (extent_view none) (apart_part f n ps apart) inner there empty x
     (ap (λ (q : ExtentView). byte_of (q ∷ []) x) wide ∙ covers_in (extent_view p ∷ []) from to x low high) in
     stands es new e f b from to (is ∙ ap (λ (l : List Extent). l ++ e ∷ drop b now) front
-    ∙ ap (λ (l : List Extent). take f es ++ e ∷ l) behind)
+    ∙ ap (λ (l : List Extent). take f es ++ e ∷ l) tail)
     (made ∙ same_piece from from _ _ refl
     (same_bytes (byte_of (map extent_view (take n (drop f ds)) ++ extent_view w ∷ [])) (byte_of (take n (drop f ps))) from (to - from)
     (λ x low high. each x low (omega (arith, high, order)))))

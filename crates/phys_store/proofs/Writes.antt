@@ -139,7 +139,7 @@ pub wrote-copied : (es : List Extent) (a n i : ℕ) (e d : Extent) (from to coun
     AreSortedAndApart 0 (map extent_view new)
     × WritesBytes (map extent_view es) (map extent_view new) to count (λ k. byte_of (map extent_view es) (from + k))
 wrote-copied es a n i e d from to count source target m apart h from_low to_low from_high to_high base front len at_source at_target
-    at copied below behind =
+    at copied below after =
     let f : ℕ = e.front in
     let new : (j : ℕ) → get_or (drop d.front d.bytes.items) j 0 ≡ get_or d.bytes.items (f + j) 0 =
     λ j. get_or-drop d.front d.bytes.items j 0 ∙ ap (λ l. get_or d.bytes.items (l + j) 0) front in
@@ -159,7 +159,7 @@ wrote-copied es a n i e d from to count source target m apart h from_low to_low 
     (omega (arith, h.high))).0)
     (λ j off. new j ∙ elim (cases_lt j (to - e.base)) [
       | inl less ↦ below (f + j) 0 (omega (arith, at_target)) ∙ old j
-      | inr more ↦ behind (f + j) 0 (grind (arith, nat_tests, at_target, at)) ∙ old j
+      | inr more ↦ after (f + j) 0 (grind (arith, nat_tests, at_target, at)) ∙ old j
     ]))
 
 -- two writes, one right after the other in addresses, are one write

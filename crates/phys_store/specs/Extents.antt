@@ -19,23 +19,23 @@ AreSortedAndApart e (p ∷ ps) =
 abbrev pub nth_extent : List ExtentView → ℕ → ExtentView
 nth_extent ps i = slice_index_or ps i (record { base = 0; bytes = [] })
 
--- the extents with the indices from `first` to just before `behind` are those that overlap or touch
+-- the extents with the indices from `first` to just before `after` are those that overlap or touch
 -- the addresses from `from` to below `to`, and they lie within these addresses
-pub record AreTouchedExtents (ps : List ExtentView) (first behind from to : ℕ) : Type 0 where
-  pub order : first ≤ behind
-  pub most : behind ≤ length ps
+pub record AreTouchedExtents (ps : List ExtentView) (first after from to : ℕ) : Type 0 where
+  pub order : first ≤ after
+  pub most : after ≤ length ps
   pub below : (i : ℕ) → i < first → end_of_extent (nth_extent ps i) < from
-  pub low : (i : ℕ) → first ≤ i → i < behind → from ≤ (nth_extent ps i).base
-  pub high : (i : ℕ) → first ≤ i → i < behind → end_of_extent (nth_extent ps i) ≤ to
-  pub above : (i : ℕ) → behind ≤ i → i < length ps → to < (nth_extent ps i).base
+  pub low : (i : ℕ) → first ≤ i → i < after → from ≤ (nth_extent ps i).base
+  pub high : (i : ℕ) → first ≤ i → i < after → end_of_extent (nth_extent ps i) ≤ to
+  pub above : (i : ℕ) → after ≤ i → i < length ps → to < (nth_extent ps i).base
 
 -- one extent with the addresses from `from` to below `to`: each byte is that of the given extents,
 -- or 0 if none of them has its address
 abbrev pub extent_with_bytes_of : List ExtentView → ℕ → ℕ → ExtentView
 extent_with_bytes_of ps from to = record { base = from; bytes = bytes_at (byte_of ps) from (to - from) }
 
--- the list with the extents from `first` to just before `behind` replaced by one, which has the
+-- the list with the extents from `first` to just before `after` replaced by one, which has the
 -- addresses from `from` to below `to`
 abbrev pub merge_extents : List ExtentView → ℕ → ℕ → ℕ → ℕ → List ExtentView
-merge_extents ps first behind from to =
-    take first ps ++ extent_with_bytes_of (take (behind - first) (drop first ps)) from to ∷ drop behind ps
+merge_extents ps first after from to =
+    take first ps ++ extent_with_bytes_of (take (after - first) (drop first ps)) from to ∷ drop after ps

@@ -17,10 +17,10 @@ use bm_base::{Memory, Range};
 use std::mem;
 
 /// The extents that a range overlaps or touches: those with the indices from `first` to just before
-/// `behind`. Together with the range they make up the addresses from `low` to just below `high`.
+/// `after`. Together with the range they make up the addresses from `low` to just below `high`.
 struct TouchedExtents {
     first: usize,
-    behind: usize,
+    after: usize,
     low: u64,
     high: u64,
 }
@@ -30,7 +30,7 @@ struct TouchedExtents {
 fn touched_extents(extents: &[Extent], range: Range) -> TouchedExtents
     requires { AreSortedAndApart 0 (map extent_view extents.now) }
     ensures joins { AreTouchedExtents
-        (map extent_view extents.now) result.first result.behind result.low result.high }
+        (map extent_view extents.now) result.first result.after result.low result.high }
     ensures low { result.low ≤ range.base }
     ensures high { end_of range ≤ result.high }
     ensures small { result.high < 2 ^ 64 }
@@ -38,18 +38,18 @@ fn touched_extents(extents: &[Extent], range: Range) -> TouchedExtents
         → IsTrue (covers range x || is_prepared_at (map extent_view extents.now) x) }
 {
     let first = first_extent_ending_at_or_above(extents, range.base);
-    let mut behind = first;
+    let mut after = first;
     let mut low = range.base;
     let mut high = range.end();
-    while behind < extents.len() && extents[behind].base <= high {
-        let extent = &extents[behind];
+    while after < extents.len() && extents[after].base <= high {
+        let extent = &extents[after];
         low = low.min(extent.base);
         high = high.max(end_of_extent(extent));
-        behind += 1;
+        after += 1;
     }
     TouchedExtents {
         first,
-        behind,
+        after,
         low,
         high,
     }
@@ -78,15 +78,15 @@ fn insert_extent(extents: &mut Vec<Extent>, first: usize, low: u64, high: u64) -
 }
 
 /// Returns the index of the extent with the most bytes, among those with the indices from `first`
-/// to just before `behind`. There must be at least one.
-fn largest(extents: &[Extent], first: usize, behind: usize) -> usize
-    requires some { first < behind }
-    requires most { behind ≤ length extents.now }
+/// to just before `after`. There must be at least one.
+fn largest(extents: &[Extent], first: usize, after: usize) -> usize
+    requires some { first < after }
+    requires most { after ≤ length extents.now }
     ensures least { first ≤ result }
-    ensures below { result < behind }
+    ensures below { result < after }
 {
     let mut best = first;
-    for i in first + 1..behind {
+    for i in first + 1..after {
         if size_of_extent(&extents[best]) < size_of_extent(&extents[i]) {
             best = i;
         }
@@ -232,20 +232,20 @@ fn copy_into_extent(extent: &mut Extent, others: &[Extent])
     }
 }
 
-/// Replaces the extents with the indices from `first` to just before `behind` by `extent`.
-fn replace(extents: &mut Vec<Extent>, first: usize, behind: usize, extent: Extent)
-    requires some { first < behind }
-    requires most { behind ≤ length extents.old.items }
+/// Replaces the extents with the indices from `first` to just before `after` by `extent`.
+fn replace(extents: &mut Vec<Extent>, first: usize, after: usize, extent: Extent)
+    requires some { first < after }
+    requires most { after ≤ length extents.old.items }
     ensures { extents.new.items ≡ take first extents.old.items
-        ++ extent ∷ drop behind extents.old.items }
+        ++ extent ∷ drop after extents.old.items }
 {
     extents[first] = extent;
-    for _gone in first + 1..behind {
+    for _gone in first + 1..after {
         drop(extents.remove(first + 1));
     }
 }
 
-/// Joins the extents with the indices from `first` to just before `behind` into one, from address
+/// Joins the extents with the indices from `first` to just before `after` into one, from address
 /// `low` to just below `high`. The largest of them is extended, and the others are copied into it.
 /// Each byte that is copied therefore ends up in an extent of at least twice the size of its old
 /// one.
@@ -257,20 +257,20 @@ fn replace(extents: &mut Vec<Extent>, first: usize, behind: usize, extent: Exten
 fn merge_touched_extents(
     extents: &mut Vec<Extent>,
     first: usize,
-    behind: usize,
+    after: usize,
     low: u64,
     high: u64,
 ) -> Result<(), Memory>
     requires apart { AreSortedAndApart 0 (map extent_view extents.old.items) }
-    requires joins { AreTouchedExtents (map extent_view extents.old.items) first behind low high }
-    requires some { first < behind }
+    requires joins { AreTouchedExtents (map extent_view extents.old.items) first after low high }
+    requires some { first < after }
     requires small { high < 2 ^ 64 }
     ensures ok { OnOk result (map extent_view extents.new.items
-        ≡ merge_extents (map extent_view extents.old.items) first behind low high) }
+        ≡ merge_extents (map extent_view extents.old.items) first after low high) }
     ensures err { OnErr result (map extent_view extents.new.items
         ≡ map extent_view extents.old.items) }
 {
-    let kept = largest(extents, first, behind);
+    let kept = largest(extents, first, after);
     widen(&mut extents[kept], low, high)?;
     let nothing = Extent {
         base: low,
@@ -278,8 +278,8 @@ fn merge_touched_extents(
         bytes: Vec::new(*extents.allocator()),
     };
     let mut whole = mem::replace(&mut extents[kept], nothing);
-    copy_into_extent(&mut whole, &extents[first..behind]);
-    replace(extents, first, behind, whole);
+    copy_into_extent(&mut whole, &extents[first..after]);
+    replace(extents, first, after, whole);
     Ok(())
 }
 
@@ -292,25 +292,25 @@ fn merge_touched_extents(
 fn merge_or_insert(extents: &mut Vec<Extent>, reach: TouchedExtents) -> Result<(), Memory>
     requires apart { AreSortedAndApart 0 (map extent_view extents.old.items) }
     requires joins { AreTouchedExtents
-        (map extent_view extents.old.items) reach.first reach.behind reach.low reach.high }
+        (map extent_view extents.old.items) reach.first reach.after reach.low reach.high }
     requires order { reach.low ≤ reach.high }
     requires small { reach.high < 2 ^ 64 }
     ensures ok { OnOk result
         (map extent_view extents.new.items ≡ merge_extents
-        (map extent_view extents.old.items) reach.first reach.behind reach.low reach.high) }
+        (map extent_view extents.old.items) reach.first reach.after reach.low reach.high) }
     ensures err { OnErr result (map extent_view extents.new.items
         ≡ map extent_view extents.old.items) }
 {
     let TouchedExtents {
         first,
-        behind,
+        after,
         low,
         high,
     } = reach;
-    if first == behind {
+    if first == after {
         insert_extent(extents, first, low, high)
     } else {
-        merge_touched_extents(extents, first, behind, low, high)
+        merge_touched_extents(extents, first, after, low, high)
     }
 }
 

@@ -15,7 +15,7 @@ use Rattle.clap.proofs.WalkLemmas.{both}
 use Rattle.program_args.specs.Grammar.{OptionRow, is_flag_action}
 use Rattle.program_args.specs.Spelling.{default_value}
 use Rattle.program_args.specs.Args.{ArgValues, arg_value_in}
-use Rattle.program_args.proofs.KnownLaws.{HasOptions, behind_first, default_fault, first_or, name_rule, off, option_of}
+use Rattle.program_args.proofs.KnownLaws.{HasOptions, after_first, default_fault, first_or, name_rule, off, option_of}
 use Rattle.program_args.proofs.SpellingLaws.{no_row_changed}
 
 abbrev pub has_some : List (List ℕ) → Bool
@@ -123,7 +123,7 @@ unspelled_by : (some : List OptionRow) (argument : List ℕ)
 unspelled_by [] argument are = grind arith
 unspelled_by (first ∷ some) argument are =
     let one : slice_get (option_of first).defaults 0 ≡ off first.1 = ap (first_or None) are in
-    rw (one, unspelled_by some argument (ap behind_first are)) (grind arith)
+    rw (one, unspelled_by some argument (ap after_first are)) (grind arith)
 
 either_none : {X : Type 0} (test : Bool) (faults : List X) → faults ≡ [] → (if test then [] else faults) ≡ []
 either_none test faults none = grind arith
@@ -133,7 +133,7 @@ unfolding defaults_fault
 defaults_pass [] rows none = refl
 defaults_pass (rule ∷ some) rows none =
     rw (either_none (has_row rule.id rows || is_empty rule.defaults) (default_fault rule) (ap (first_or []) none))
-    (defaults_pass some (with_default rows rule) (ap behind_first none))
+    (defaults_pass some (with_default rows rule) (ap after_first none))
 
 module _ (command : Shape) (options : List OptionRow) (has : HasOptions command options) where
   -- an argument without a row gets the value of an argument without a spelling

@@ -87,9 +87,9 @@ first_or other [] = other
 first_or other (x ∷ xs) = x
 
 -- a list without its first element
-abbrev pub behind_first : {X : Type 0} → List X → List X
-behind_first [] = []
-behind_first (x ∷ xs) = xs
+abbrev pub after_first : {X : Type 0} → List X → List X
+after_first [] = []
+after_first (x ∷ xs) = xs
 
 abbrev pub off : ArgAction → Option (List ℕ)
 off action = if is_flag_action action then Some (codes "false") else None
@@ -163,7 +163,7 @@ known_in rules test action only (first ∷ some) name are is =
           let parts = and_parts (test first.1) (bytes_eq first.0 name) here in
           let equal : first ≡ (name, action) = rw (← (bytes_eq-Decides first.0 name).0 parts.1, ← only first.1 parts.0) refl in
           subst (Known rules) equal (known_by rules first (ap (first_or (expected_look first)) are))
-      | inr later ↦ known_in rules test action only some name (ap behind_first are) later
+      | inr later ↦ known_in rules test action only some name (ap after_first are) later
     ]
 
 module _ (command : Shape) (options : List OptionRow) (has : HasOptions command options) (name : List ℕ) where

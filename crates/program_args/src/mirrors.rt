@@ -54,12 +54,12 @@ fn are_mirror_pieces(list: &[u8]) -> bool
     let mut pieces = 0;
     let mut rest = Some(list);
     while let Some(text) = rest {
-        let (piece, behind) = next_part(text, Separators::Byte(b':'));
+        let (piece, after) = next_part(text, Separators::Byte(b':'));
         if pieces == MOST_RANGES || base_size_range(piece).is_none() {
             return false;
         }
         pieces += 1;
-        rest = behind;
+        rest = after;
     }
     true
 }
@@ -73,11 +73,11 @@ fn mirrors_in_list(alloc: Global, list: &[u8]) -> Result<Vec<Range>, Memory>
     let mut mirrors = Vec::new(alloc);
     let mut rest = Some(list);
     while let Some(text) = rest {
-        let (piece, behind) = next_part(text, Separators::Byte(b':'));
+        let (piece, after) = next_part(text, Separators::Byte(b':'));
         if let Some(frames) = piece_frames(piece) {
             mirrors.push(frames)?;
         }
-        rest = behind;
+        rest = after;
     }
     Ok(mirrors)
 }

@@ -18,11 +18,11 @@ pub fn are_report_names(list: &[u8], further: &[&str]) -> bool
 {
     let mut rest = Some(list);
     while let Some(text) = rest {
-        let (name, behind) = next_part(text, Separators::Byte(b','));
+        let (name, after) = next_part(text, Separators::Byte(b','));
         if !is_report_name(name, further) {
             return false;
         }
-        rest = behind;
+        rest = after;
     }
     true
 }

@@ -118,7 +118,7 @@ fn expect(
     let further = files.fetch(alloc, "zp", 4096);
     assert!(rt;
         further.err() == Some(Fetch::Failed),
-        "behind fetch {failing:?}"
+        "after fetch {failing:?}"
     );
     Ok(())
 }
@@ -149,7 +149,7 @@ fn expect_with_claims(
     let further = files.fetch(alloc, "zp", 4096);
     assert!(rt;
         further.err() == Some(Fetch::Failed),
-        "with claims, behind fetch {failing:?}"
+        "with claims, after fetch {failing:?}"
     );
     Ok(())
 }
@@ -259,9 +259,9 @@ fn refused_claims_are_the_last(rt: HostRuntime) -> Result<(), Fail> {
         (script, Input::Script, ScriptFault::BadLine { line: 1 }, 6),
         (claims, Input::Claims, ScriptFault::BadLine { line: 2 }, 7),
     ];
-    for (held, input, fault, behind) in &rows {
+    for (held, input, fault, after) in &rows {
         let want = Err(InputsReason::Faulty(*input, Fault::Script(*fault)));
-        expect_with_claims(&rt, rt.alloc(), held, &[*behind], want)?;
+        expect_with_claims(&rt, rt.alloc(), held, &[*after], want)?;
     }
     Ok(())
 }
@@ -369,9 +369,9 @@ fn refused_file_is_the_last(rt: HostRuntime) -> Result<(), Fail> {
             9,
         ),
     ];
-    for (held, input, fault, behind) in &rows {
+    for (held, input, fault, after) in &rows {
         let want = InputsReason::Faulty(*input, *fault);
-        expect(&rt, rt.alloc(), held, &[*behind], Some(want))?;
+        expect(&rt, rt.alloc(), held, &[*after], Some(want))?;
     }
     Ok(())
 }

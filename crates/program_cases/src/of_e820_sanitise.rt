@@ -131,7 +131,7 @@ fn bios_areas_are_trimmed(rt: HostRuntime) {
 }
 
 #[test]
-fn entries_come_in_behind_edits(rt: HostRuntime) {
+fn entries_come_in_after_edits(rt: HostRuntime) {
     let mut table = settled(
         &rt,
         rt.alloc(),

@@ -118,7 +118,7 @@ fn made_inputs(rt: HostRuntime) -> Result<(), Fail> {
             Some((239_824_896, 32_768, 1)),
         ),
     ];
-    for (n, page, behind, last) in &cases {
+    for (n, page, after, last) in &cases {
         let input = made(rt.alloc(), *n)?;
         let seen = |entry: &Entry| (entry.addr, entry.size, entry.kind);
         let told = (
@@ -126,7 +126,7 @@ fn made_inputs(rt: HostRuntime) -> Result<(), Fail> {
             input.ext.len(),
             input.ext.as_slice().last().map(seen),
         );
-        assert!(rt; told == (Some(*page), *behind, *last), "{n}");
+        assert!(rt; told == (Some(*page), *after, *last), "{n}");
     }
     Ok(())
 }

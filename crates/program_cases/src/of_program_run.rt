@@ -317,7 +317,7 @@ fn compare_fetches(
         let mut files = MemFiles::new(five_files(alloc, held)?, Vec::from_slice(alloc, fetches)?);
         let ended = run_over(alloc, words, &mut files, puts, lines)?;
         assert!(rt; ended.is(*status, text, error), "{words:?} {failing:?}");
-        assert!(rt; fails(&mut files, alloc), "behind {words:?} {failing:?}");
+        assert!(rt; fails(&mut files, alloc), "after {words:?} {failing:?}");
     }
     Ok(())
 }

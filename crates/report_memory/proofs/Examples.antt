@@ -32,16 +32,16 @@ ram_at_1M : RunOf ℕ
 ram_at_1M = record { base = 0x100000; size = 0x7EE0000; value = 1 }
 
 -- a reserved run that follows `ram_at_1M`
-reserved_behind : RunOf ℕ
-reserved_behind = record { base = 0x7FE0000; size = 0x20000; value = 2 }
+reserved_after : RunOf ℕ
+reserved_after = record { base = 0x7FE0000; size = 0x20000; value = 2 }
 
 -- the report `map` on two runs, and the names of some e820 types; an unknown type is `other`
-map_examples : (map_text (ram_at_1M ∷ reserved_behind ∷ [])
+map_examples : (map_text (ram_at_1M ∷ reserved_after ∷ [])
     ≡ codes "0x0000000000100000..0x0000000007fdffff 1 usable\n0x0000000007fe0000..0x0000000007ffffff 2 reserved\n")
     × (e820_type_name 0xEFFFFFFF ≡ codes "soft reserved")
     × (e820_type_name 6 ≡ codes "other")
     × (e820_type_name 128 ≡ codes "usable kernel")
-unfolding ram_at_1M reserved_behind digits
+unfolding ram_at_1M reserved_after digits
 map_examples = (refl, refl, refl, refl)
 
 -- the first MiB, for the examples of several reports

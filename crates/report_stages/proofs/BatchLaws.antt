@@ -58,9 +58,9 @@ unfolding prepend_hex_digits
 digit_step text i left below long =
     let place : 8 - (i + 1) ≡ 7 - i = omega arith in
     let count : 8 - i ≡ suc (7 - i) = omega arith in
-    let behind : 7 - i + 1 ≡ 8 - i = omega arith in
+    let after : 7 - i + 1 ≡ 8 - i = omega arith in
     let inside : 7 - i < length text = omega arith in
-    rw (place, drop-set text (7 - i) (digit_glyph false (left % 16)) inside, behind, count) refl
+    rw (place, drop-set text (7 - i) (digit_glyph false (left % 16)) inside, after, count) refl
 
 pub digits_end : (text : List ℕ) (i left n : ℕ) → i ≡ 8 → n < 2 ^ 32
     → prepend_hex_digits (8 - i) left (drop (8 - i) text) ≡ prepend_hex_digits 8 n [] → text ≡ eight_digits n

@@ -7,7 +7,7 @@ use Rattle.buddy_blocks.specs.declared.block.Block.{Block}
 use Rattle.buddy_blocks.specs.Rows.{blocks_of_row}
 use Rattle.report_stages.specs.BlocksText.{AreAlignedBlocks, row_text}
 use Rattle.report_stages.specs.Batches.{FillBatches}
-use Rattle.report_stages.proofs.RowLaws.{first_placed, lines, lines_append, part, placed_before, placed_behind, row_end, three_parts}
+use Rattle.report_stages.proofs.RowLaws.{first_placed, lines, lines_append, part, placed_before, placed_after, row_end, three_parts}
 
 -- the number of blocks before the first multiple of 4 GiB
 abbrev pub before : ℕ → ℕ
@@ -42,7 +42,7 @@ in_parts row b m e great count some whole middle aligned end placed =
         count = rw middle at whole;
         end = omega (arith, count, end);
       };
-      after = placed_behind (blocks_of_row (part row b (row.count - b - e))) back (placed_behind front _ parts);
+      after = placed_after (blocks_of_row (part row b (row.count - b - e))) back (placed_after front _ parts);
       text = ap lines all ∙ simp lines_append;
     }
 

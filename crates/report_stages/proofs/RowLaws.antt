@@ -64,9 +64,9 @@ bounds_placed (b ∷ bs) all = (all.0.order, all.0.first, all.0.aligned, bounds_
 
 -- this and the next: if a list is aligned and below the limit, so is its second part, and so is its
 -- first
-pub placed_behind : (bs cs : List Block) → AreAlignedBlocks (bs ++ cs) → AreAlignedBlocks cs
-placed_behind [] cs all = all
-placed_behind (b ∷ bs) cs all = placed_behind bs cs all.3
+pub placed_after : (bs cs : List Block) → AreAlignedBlocks (bs ++ cs) → AreAlignedBlocks cs
+placed_after [] cs all = all
+placed_after (b ∷ bs) cs all = placed_after bs cs all.3
 
 pub placed_before : (bs cs : List Block) → AreAlignedBlocks (bs ++ cs) → AreAlignedBlocks bs
 placed_before [] cs all = tt
@@ -133,7 +133,7 @@ pub rows_placed : (rs : List BlockRow) (i : ℕ) (d : BlockRow) → AreAlignedBl
 rows_placed [] i d all within = absurd (omega arith)
 rows_placed (r ∷ rs) zero d all within = placed_before (blocks_of_row r) (blocks_of_rows rs) all
 rows_placed (r ∷ rs) (suc i) d all within =
-    rows_placed rs i d (placed_behind (blocks_of_row r) (blocks_of_rows rs) all) (omega arith)
+    rows_placed rs i d (placed_after (blocks_of_row r) (blocks_of_rows rs) all) (omega arith)
 
 pub row_put : (rs : List BlockRow) (i : ℕ) (d : BlockRow) (before after whole : List ℕ) → i < length rs
     → after ≡ before ++ lines (blocks_of_row (get_or rs i d)) → before ++ lines (blocks_of_rows (drop i rs)) ≡ whole

@@ -27,10 +27,10 @@ module _ {X : Type 0} where
       → change_range change r f x ≡ change (f x)
   amended_inside change r f x above under = rw (in_range r x above under) refl
 
-  pub amended_behind : (change : Option X → Option X) (r : RangeView) (f : ℕ → Option X) (x : ℕ) → r.base + r.size ≤ x
+  pub amended_after : (change : Option X → Option X) (r : RangeView) (f : ℕ → Option X) (x : ℕ) → r.base + r.size ≤ x
       → change_range change r f x
       ≡ f x
-  amended_behind change r f x past = rw (not_covered r x past) refl
+  amended_after change r f x past = rw (not_covered r x past) refl
 
   -- inside the range, while the function is constant, the edited function is constant too
   pub amended_stays : (change : Option X → Option X) (r : RangeView) (f : ℕ → Option X) (from to next : ℕ) (v : Option X) → r.base ≤ from
@@ -39,17 +39,17 @@ module _ {X : Type 0} where
   amended_stays change r f from to next v first last order stays is x above under =
       amended_inside change r f x (omega arith) (omega arith) ∙ ap change (stays x above (omega arith)) ∙ sym is
 
-  pub amended_stays_behind : (change : Option X → Option X) (r : RangeView) (f : ℕ → Option X) (from next : ℕ) (v : Option X)
+  pub amended_stays_after : (change : Option X → Option X) (r : RangeView) (f : ℕ → Option X) (from next : ℕ) (v : Option X)
       → r.base + r.size ≤ from
       → HasValueBetween f from next (f from) → v ≡ f from → HasValueBetween (change_range change r f) from next v
-  amended_stays_behind change r f from next v past stays is x above under = amended_behind change r f x (omega arith)
+  amended_stays_after change r f from next v past stays is x above under = amended_after change r f x (omega arith)
       ∙ stays x above under ∙ sym is
 
   -- if nothing is carried from an address on, and the range ends at or below it, nothing is carried
   -- from it on after the edit either
   pub amended_ends : (change : Option X → Option X) (r : RangeView) (f : ℕ → Option X) (at : ℕ) → r.base + r.size ≤ at → IsEmptyFrom at f
       → IsEmptyFrom at (change_range change r f)
-  amended_ends change r f at ends none x le = amended_behind change r f x (omega arith) ∙ none x le
+  amended_ends change r f at ends none x le = amended_after change r f x (omega arith) ∙ none x le
 
   -- if the current run must be written and there is no free slot, there is room for one more record
   pub room_here : (same : X → X → Bool) → DecidesEquality same

@@ -5,8 +5,8 @@ use Rattle.std.proofs.lemmas.Bool.{cases_lt, cases_Bool}
 use Rattle.address_runs.specs.Runs.{RunOf, DecidesEquality, run_end, lies_in, value_at, AreRuns}
 use Rattle.address_runs.specs.Edits.{IsEmptyFrom}
 use Rattle.address_runs.specs.Sweep.{StartAtOrPast, EndBy, FirstEndsPast, IsSweptTo, IsRestFrom}
-use Rattle.address_runs.proofs.RunsLaws.{inside, behind, none_below, another_value_at_run_end}
-use Rattle.address_runs.proofs.SweepLaws.{none_behind, behind_none, rest_whole}
+use Rattle.address_runs.proofs.RunsLaws.{inside, past_end, none_below, another_value_at_run_end}
+use Rattle.address_runs.proofs.SweepLaws.{none_after, after_none, rest_whole}
 use Rattle.run_edits.specs.Ends.{total, run_ends_between, run_ends_at, one_right_below}
 
 pub total-alike : (g h : ℕ → ℕ) (x n : ℕ) → ((y : ℕ) → x ≤ y → y < x + n → g y ≡ h y) → total g x n ≡ total h x n
@@ -89,9 +89,9 @@ run_ends_between-other same tells v (Some w) other =
     ]
 
 -- the runs after a run end above its end
-pub behind_run : {X : Type 0} (r : RunOf X) (rs : List (RunOf X)) → AreRuns (r ∷ rs) → FirstEndsPast (run_end r) rs
-behind_run r [] runs = tt
-behind_run r (s ∷ ss) runs = let order = runs.1.0 in let some = runs.2.0 in omega arith
+pub after_run : {X : Type 0} (r : RunOf X) (rs : List (RunOf X)) → AreRuns (r ∷ rs) → FirstEndsPast (run_end r) rs
+after_run r [] runs = tt
+after_run r (s ∷ ss) runs = let order = runs.1.0 in let some = runs.2.0 in omega arith
 
 -- no run ends at an address below the last one of the first run
 no_end_inside_run : {X : Type 0} (same : X → X → Bool) → DecidesEquality same → (r : RunOf X) (rs : List (RunOf X)) (y : ℕ)
@@ -117,9 +117,9 @@ length_ends {X} same tells (r ∷ rs) x n runs ends none =
     let f : ℕ → Option X = value_at (r ∷ rs) in
     let e : ℕ = run_end r in
     let some : 0 < r.size = runs.0 in
-    let behind_x : x < e = ends in
+    let after_x : x < e = ends in
     let last : f (e - 1) ≡ Some r.value = rw (inside r (e - 1) (omega arith) (omega arith)) refl in
-    let tail : (y : ℕ) → e ≤ y → f y ≡ value_at rs y = λ y past. rw (behind r y past) refl in
+    let tail : (y : ℕ) → e ≤ y → f y ≡ value_at rs y = λ y past. rw (past_end r y past) refl in
     let within : e ≤ x + n = elim (cases_lt (e - 1) (x + n)) as (λ _. e ≤ x + n) [
       | inl lt ↦ omega arith
       | inr ge ↦ let clash : Some r.value ≡ None = sym last ∙ none (e - 1) ge in cc
@@ -134,7 +134,7 @@ length_ends {X} same tells (r ∷ rs) x n runs ends none =
     let one : run_ends_at same f (e - 1) ≡ 1 = rw (last, at_end) (run_ends_between-other same tells r.value (f e) other) in
     let alike = total-alike (run_ends_at same f) (run_ends_at same (value_at rs)) e rest
     (λ y above under. rw (tail y above, tail (y + 1) (omega arith)) refl) in
-    let others = length_ends same tells rs e rest runs.2 (behind_run r rs runs)
+    let others = length_ends same tells rs e rest runs.2 (after_run r rs runs)
     (λ y far. sym (tail y (omega arith)) ∙ none y (omega arith)) in
     let moved : total (run_ends_at same f) (e - 1 + 1) rest
     ≡ total (run_ends_at same f) e rest = ap (λ (y : ℕ). total (run_ends_at same f) y rest) at_end in
@@ -166,14 +166,14 @@ pub swept_ends : {X : Type 0} (same : X → X → Bool) → DecidesEquality same
     → IsSweptTo g at xs
     → length xs ≡ total (run_ends_at same g) 0 at
 swept_ends same tells g at xs swept =
-    length_ends same tells xs 0 at swept.runs (behind_none xs swept.runs) (λ y far. none_behind at y (g at) xs swept.ends (omega arith))
+    length_ends same tells xs 0 at swept.runs (after_none xs swept.runs) (λ y far. none_after at y (g at) xs swept.ends (omega arith))
     ∙ total-alike (run_ends_at same (value_at xs)) (run_ends_at same g) 0 at (λ y above under.
     let here : value_at xs y ≡ g y = swept.each y (omega arith) in
     elim (cases_lt (y + 1) at) as (λ _. run_ends_at same (value_at xs) y ≡ run_ends_at same g y) [
       | inl lt ↦ let next : value_at xs (y + 1) ≡ g (y + 1) = swept.each (y + 1) lt in rw (here, next) refl
       | inr ge ↦
           let end : y + 1 ≡ at = omega arith in
-          let none : value_at xs (y + 1) ≡ None = none_behind at (y + 1) (g at) xs swept.ends (omega arith) in
+          let none : value_at xs (y + 1) ≡ None = none_after at (y + 1) (g at) xs swept.ends (omega arith) in
           let value : g (y + 1) ≡ g at = ap g end in
           rw (here, none, value) (edge_at_end same tells (g y) (g at) (λ w is. last_other at y (g at) w xs swept.ends end (here ∙ is)))
     ])

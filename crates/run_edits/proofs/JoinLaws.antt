@@ -8,8 +8,8 @@ use Rattle.std.specs.Prelude.{is_some}
 use Rattle.address_runs.specs.Runs.{RunOf, DecidesEquality, run_end, value_at, IsBefore, AreRuns, IsRunsOf}
 use Rattle.address_runs.specs.Edits.{IsEmptyFrom}
 use Rattle.address_runs.specs.Sweep.{HasValueBetween, StartAtOrPast, EndBy, FirstEndsPast, FirstEndsAtOrPast, IsSweptTo, IsRestFrom, IsBuiltTo}
-use Rattle.address_runs.proofs.RunsLaws.{inside, behind, none_below}
-use Rattle.address_runs.proofs.SweepLaws.{none_behind, value_append_none, value_append_left, swept_over, swept_push}
+use Rattle.address_runs.proofs.RunsLaws.{inside, past_end, none_below}
+use Rattle.address_runs.proofs.SweepLaws.{none_after, value_append_none, value_append_left, swept_over, swept_push}
 use Rattle.run_edits.specs.Records.{run_or_none, EndBelow}
 use Rattle.run_edits.specs.Ends.{run_ends_at, HasRoomToEdit}
 use Rattle.run_edits.proofs.EndLaws.{total-split, swept_ends, rest_ends}
@@ -51,7 +51,7 @@ module _ {X : Type 0} where
     runs = runs_join at (g at) xs rs swept.runs swept.ends rest.runs starts (rest.each at (omega arith) ∙ sym (like at (omega arith)));
     each = λ x. elim (cases_lt x at) as (λ _. value_at (xs ++ rs) x ≡ g x) [
       | inl lt ↦ value_append_left xs rs x (none_below at x rs rest.runs starts lt) ∙ swept.each x lt
-      | inr ge ↦ value_append_none xs rs x (none_behind at x (g at) xs swept.ends ge) ∙ rest.each x ge ∙ sym (like x ge)
+      | inr ge ↦ value_append_none xs rs x (none_after at x (g at) xs swept.ends ge) ∙ rest.each x ge ∙ sym (like x ge)
     ];
   }
 
@@ -96,7 +96,7 @@ module _ {X : Type 0} where
   value_in : (xs rs : List (RunOf X)) (r : RunOf X) (x : ℕ) → AreRuns (xs ++ r ∷ rs) → r.base ≤ x → x < run_end r
       → value_at (xs ++ r ∷ rs) x ≡ Some r.value
   value_in xs rs r x runs above under =
-      value_append_none xs (r ∷ rs) x (none_behind r.base x (Some r.value) xs (ends_front xs rs r runs) above)
+      value_append_none xs (r ∷ rs) x (none_after r.base x (Some r.value) xs (ends_front xs rs r runs) above)
       ∙ rw (inside r x above under) refl
 
   -- an edit that begins inside a run or exactly at its end starts with that run as the current one
@@ -147,7 +147,7 @@ module _ {X : Type 0} where
 
   none_past : (at x : ℕ) (xs : List (RunOf X)) → EndBelow at xs → at ≤ x + 1 → value_at xs x ≡ None
   none_past at x [] ends le = refl
-  none_past at x (r ∷ rs) ends le = let under : run_end r < at = ends.0 in rw (behind r x (omega arith)) (none_past at x rs ends.1 le)
+  none_past at x (r ∷ rs) ends le = let under : run_end r < at = ends.0 in rw (past_end r x (omega arith)) (none_past at x rs ends.1 le)
 
   ends_from : (at : ℕ) (rs : List (RunOf X)) → AreRuns rs → FirstEndsAtOrPast at rs → FirstEndsPast (at - 1) rs
   ends_from at [] runs ends = tt

@@ -20,11 +20,11 @@ pub closed : {S : Type 0} (i n count : ℕ) (xs : List S) → count ≡ length x
 closed i n count xs is fits =
     let left : ℕ = count - (i + n) in
     let all : count - n ≡ i + left = omega arith in
-    let behind : left ≡ length xs - (i + n) = omega arith in
+    let after : left ≡ length xs - (i + n) = omega arith in
     let enough : left ≤ length (drop (i + n) xs) = omega (arith, length-drop (i + n) xs) in
     ap (λ (k : ℕ). take k (copy_within xs (i + n) count i)) all
     ∙ take-paste xs i (drop (i + n) xs) left (omega arith) enough
-    ∙ ap (λ rest. take i xs ++ rest) (ap (λ (k : ℕ). take k (drop (i + n) xs)) behind ∙ take_rest xs (i + n))
+    ∙ ap (λ rest. take i xs ++ rest) (ap (λ (k : ℕ). take k (drop (i + n) xs)) after ∙ take_rest xs (i + n))
 
 pub map_closed : {S R : Type 0} (run : S → R) (i n : ℕ) (xs : List S) → map run (take i xs ++ drop (i + n) xs) ≡ take i (map run xs)
     ++ drop (i + n) (map run xs)

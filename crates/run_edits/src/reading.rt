@@ -81,7 +81,7 @@ pub fn value_and_end<S: ValuedRange, T: Rows<S>>(
         HasValueBetween f from result.1 (f from) }
     ensures another { (f : ℕ → Option S.Value) → IsRestFrom f from (drop read (T.list table.now)) →
         f result.1 ≡ f from → f from ≡ None }
-    ensures behind { FirstEndsPast from (drop read (T.list table.now)) → from < 2 ^ 64 - 1 →
+    ensures after { FirstEndsPast from (drop read (T.list table.now)) → from < 2 ^ 64 - 1 →
         from < result.1 }
     ensures forward { FirstEndsPast from (drop read (T.list table.now)) → from < 2 ^ 64 →
         from ≤ result.1 }

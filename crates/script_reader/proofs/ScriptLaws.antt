@@ -9,16 +9,16 @@ use Rattle.bm_base.specs.ResultSteps.{◌>>=◌}
 use Rattle.script_reader.specs.Lines.{ScriptKind, script_line_at, has_once_command, read_line, script_lines_from}
 
 -- the first argument's lines followed by the others; or the fault of the others, if they have one
-abbrev pub behind : {L E : Type 0} → List L → Result (List L) E → Result (List L) E
-behind front (Ok lines) = Ok (front ++ lines)
-behind front (Err fault) = Err fault
+abbrev pub after : {L E : Type 0} → List L → Result (List L) E → Result (List L) E
+after front (Ok lines) = Ok (front ++ lines)
+after front (Err fault) = Err fault
 
 in_front : {L : Type 0} (line : Option L) (lines : List L) → cons_option line lines ≡ option_to_list line ++ lines
 in_front None lines = refl
 in_front (Some line) lines = refl
 
 pub with_others : {L E : Type 0} (front : List L) (line : Option L) (others : Result (List L) E)
-    → behind front (others >>= λ lines. Ok (cons_option line lines)) ≡ behind (front ++ option_to_list line) others
+    → after front (others >>= λ lines. Ok (cons_option line lines)) ≡ after (front ++ option_to_list line) others
 with_others {L = L} front line (Ok lines) =
     ap (λ (ls : List L). Ok ls)
     (ap (λ (ls : List L). front ++ ls) (in_front line lines) ∙ sym (append_assoc front (option_to_list line) lines))
@@ -27,16 +27,16 @@ with_others front line (Err fault) = refl
 -- the first line that remains becomes the last one that was read
 pub line_read : {A L : Type 0} (kind : ScriptKind A L) (seen : Bool) (number : ℕ) (front : List L) (text : List ℕ) (texts : List (List ℕ))
     (act : Option A) → read_line kind seen text ≡ Ok act
-    → behind front (script_lines_from kind seen number (text ∷ texts))
-    ≡ behind (front ++ option_to_list (script_line_at kind number act))
+    → after front (script_lines_from kind seen number (text ∷ texts))
+    ≡ after (front ++ option_to_list (script_line_at kind number act))
     (script_lines_from kind (has_once_command kind seen act) (number + 1) texts)
 line_read kind seen number front text texts act is =
     rw is (with_others front (script_line_at kind number act) (script_lines_from kind (has_once_command kind seen act) (number + 1) texts))
 
 -- after a line, the text that remains is shorter
-pub left_behind : (rest : Option (Bor (List ℕ))) (n : ℕ) → IfSome rest (λ text. length text.now < n) → left rest ≤ n
-left_behind None n shorter = omega arith
-left_behind (Some text) n shorter = omega (arith, shorter)
+pub left_after : (rest : Option (Bor (List ℕ))) (n : ℕ) → IfSome rest (λ text. length text.now < n) → left rest ≤ n
+left_after None n shorter = omega arith
+left_after (Some text) n shorter = omega (arith, shorter)
 
 -- the list has exactly the lines that were read
 pub kept_lines_are_read : {L : Type 0} (result lines : Result (Vec L Global) Memory) (front added : List L)

@@ -143,11 +143,11 @@ first_ok : (number : ℕ) (first : Result (Option Act) ScriptLineFault) (others 
     (lines : List Line)
     → read_on number first others ≡ Ok lines → FirstOk number first others lines
 first_ok number (Err fault) others lines is = cc (is)
-first_ok number (Ok act) others lines is = behind (others act) refl
+first_ok number (Ok act) others lines is = after (others act) refl
   where
-    behind : (r : Result (List Line) (ℕ × ScriptLineFault)) → others act ≡ r → FirstOk number (Ok act) others lines
-    behind (Ok left) was = (act, left, refl, was, let read = (rw was at is) in cc (read))
-    behind (Err fault) was = let read = (rw was at is) in cc (read)
+    after : (r : Result (List Line) (ℕ × ScriptLineFault)) → others act ≡ r → FirstOk number (Ok act) others lines
+    after (Ok left) was = (act, left, refl, was, let read = (rw was at is) in cc (read))
+    after (Err fault) was = let read = (rw was at is) in cc (read)
 
 abbrev FirstFault : ℕ → Result (Option Act) ScriptLineFault → (Option Act → Result (List Line) (ℕ × ScriptLineFault))
     → ℕ × ScriptLineFault → Type 0
@@ -158,11 +158,11 @@ first_fault : (number : ℕ) (first : Result (Option Act) ScriptLineFault) (othe
     (told : ℕ × ScriptLineFault)
     → read_on number first others ≡ Err told → FirstFault number first others told
 first_fault number (Err fault) others told is = inl (fault, refl, cc (is))
-first_fault number (Ok act) others told is = behind (others act) refl
+first_fault number (Ok act) others told is = after (others act) refl
   where
-    behind : (r : Result (List Line) (ℕ × ScriptLineFault)) → others act ≡ r → FirstFault number (Ok act) others told
-    behind (Ok left) was = let read = (rw was at is) in cc (read)
-    behind (Err fault) was = let read = (rw was at is) in inr (act, refl, was ∙ read)
+    after : (r : Result (List Line) (ℕ × ScriptLineFault)) → others act ≡ r → FirstFault number (Ok act) others told
+    after (Ok left) was = let read = (rw was at is) in cc (read)
+    after (Err fault) was = let read = (rw was at is) in inr (act, refl, was ∙ read)
 
 lines_ask : (earlier : List (List ℕ)) (seen : Bool) (texts : List (List ℕ)) (lines : List Line) → SeenIn earlier seen
     → (script_lines_from script_lines seen (length earlier + 1) texts ≡ Ok lines) ↔ LinesHaveActs earlier texts lines

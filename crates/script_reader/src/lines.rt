@@ -98,7 +98,7 @@ pub fn read_lines<L: ScriptLine>(alloc: Global, bytes: &[u8]) -> Result<Vec<L>, 
     let mut number: u64 = 1;
     let mut rest = Some(bytes);
     while let Some(text) = rest {
-        let (text, behind) = next_part(text, Separators::Byte(b'\n'));
+        let (text, after) = next_part(text, Separators::Byte(b'\n'));
         let act = match read_line::<L>(seen, text) {
             Ok(act) => act,
             Err(wrong) => return Err(LinesError::Faulty(number as u32, wrong)),
@@ -106,7 +106,7 @@ pub fn read_lines<L: ScriptLine>(alloc: Global, bytes: &[u8]) -> Result<Vec<L>, 
         seen = has_once_command::<L>(seen, &act);
         lines = append_line(lines, script_line_at::<L>(number, act));
         number += 1;
-        rest = behind;
+        rest = after;
     }
     Ok(lines?)
 }

@@ -114,19 +114,19 @@ holding = record { frames = λ x. None; held = λ id. Some five }
 
 -- this program may be out of memory at a line that frees, after a line that was answered
 amid_example : StopsAtLine nodes holding (near 5 ∷ give 6 ∷ []) holding
-amid_example = record { before = near 5 ∷ []; line = give 6; behind = []; is = refl; takes = tt; state = refl }
+amid_example = record { before = near 5 ∷ []; line = give 6; after = []; is = refl; takes = tt; state = refl }
 
-refused_out : (s : PageState) (before : List PageLine) (line : PageLine) (behind : List PageLine) → near 5 ∷ [] ≡ before ++ line ∷ behind
+refused_out : (s : PageState) (before : List PageLine) (line : PageLine) (after : List PageLine) → near 5 ∷ [] ≡ before ++ line ∷ after
     → (NeedsMemory (page_step_by_distance nodes s (acts.Near 1 0 0)).0 → ⊥)
     → NeedsMemory (page_step_by_distance nodes (page_state_after nodes s before) line.act).0 → ⊥
-refused_out s [] line behind is refused takes =
+refused_out s [] line after is refused takes =
     let same : line ≡ near 5 = sym (ap (λ (ls : List PageLine). get_or ls 0 line) is) in
     refused (subst (λ (l : PageLine). NeedsMemory (page_step_by_distance nodes s l.act).0) same takes)
-refused_out s (x ∷ xs) line behind is refused takes =
-    let many : 0 ≡ length xs + length (line ∷ behind) =
-    ap (λ (ls : List PageLine). length (drop 1 ls)) is ∙ length-append xs (line ∷ behind) in
+refused_out s (x ∷ xs) line after is refused takes =
+    let many : 0 ≡ length xs + length (line ∷ after) =
+    ap (λ (ls : List PageLine). length (drop 1 ls)) is ∙ length-append xs (line ∷ after) in
     absurd (omega (arith, many))
 
 -- never at a line that is refused since its ID holds something
 held_wants_none : (later : PageState) → StopsAtLine nodes holding (near 5 ∷ []) later → ⊥
-held_wants_none later ends = refused_out holding ends.before ends.line ends.behind ends.is (λ takes. takes) ends.takes
+held_wants_none later ends = refused_out holding ends.before ends.line ends.after ends.is (λ takes. takes) ends.takes

@@ -19,11 +19,11 @@ use Rattle.slit_zonelists.specs.Near.{has_block, first_zone, take_from_zone, tak
 use Rattle.slit_zonelists.proofs.ListLaws.{found_passes}
 
 -- the first zone that has a block
-pub first_is : (s : PageState) (order : ℕ) (before : List ListZone) (z : ListZone) (behind : List ListZone) → has_block s order z ≡ true
-    → All (λ y. has_block s order y ≡ false) before → first_zone s order (before ++ z ∷ behind) ≡ Some z
-first_is s order [] z behind has none = rw has refl
-first_is s order (y ∷ ys) z behind has none =
-    rw (none 0 y (omega arith)) (first_is s order ys z behind has (All-tail (λ y. has_block s order y ≡ false) y ys none))
+pub first_is : (s : PageState) (order : ℕ) (before : List ListZone) (z : ListZone) (after : List ListZone) → has_block s order z ≡ true
+    → All (λ y. has_block s order y ≡ false) before → first_zone s order (before ++ z ∷ after) ≡ Some z
+first_is s order [] z after has none = rw has refl
+first_is s order (y ∷ ys) z after has none =
+    rw (none 0 y (omega arith)) (first_is s order ys z after has (All-tail (λ y. has_block s order y ≡ false) y ys none))
 
 -- no zone has a block
 pub first_none : (s : PageState) (order : ℕ) (zs : List ListZone) → All (λ y. has_block s order y ≡ false) zs → first_zone s order zs ≡ None

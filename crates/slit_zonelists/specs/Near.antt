@@ -64,8 +64,8 @@ pub record StopsBeforeLines (b : PagesView) (lines : List PageLine) (later : Pag
 pub record StopsAtLine (k : ZoneListsView) (s : PageState) (lines : List PageLine) (later : PageState) : Type 0 where
   pub before : List PageLine
   pub line : PageLine
-  pub behind : List PageLine
-  pub is : lines ≡ before ++ line ∷ behind
+  pub after : List PageLine
+  pub is : lines ≡ before ++ line ∷ after
   pub takes : NeedsMemory (page_step_by_distance k (page_state_after k s before) line.act).0
   pub state : later ≡ page_state_after k s before
 
@@ -77,7 +77,7 @@ RunsOutInPageScript k b lines later = StopsBeforeLines b lines later ⊎ StopsAt
 -- the list has such a block
 pub record IsFirstZone (s : PageState) (order : ℕ) (zs : List ListZone) (z : ListZone) : Type 0 where
   pub before : List ListZone
-  pub behind : List ListZone
-  pub is : zs ≡ before ++ z ∷ behind
+  pub after : List ListZone
+  pub is : zs ≡ before ++ z ∷ after
   pub has : has_block s order z ≡ true
   pub first : All (λ y. has_block s order y ≡ false) before

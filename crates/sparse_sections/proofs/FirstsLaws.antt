@@ -9,14 +9,14 @@ use Rattle.sparse_sections.specs.Roots.{root_of, is_last_root, first_of_each_roo
 
 -- the first section of a root that isn't the last placed one is the first of all sections of that
 -- root
-first_behind : (last : Option ℕ) (ss : List Section) (root : ℕ) → is_last_root last root ≡ false
+first_after : (last : Option ℕ) (ss : List Section) (root : ℕ) → is_last_root last root ≡ false
     → find (λ s. root_of s == root) (first_of_each_root last ss) ≡ find (λ s. root_of s == root) ss
-first_behind last [] root other = refl
-first_behind last (s ∷ ss) root other = elim (cases_Bool (is_last_root last (root_of s))) [
-  | inl placed ↦ rw (placed, not_last last (root_of s) root placed other) (first_behind last ss root other)
+first_after last [] root other = refl
+first_after last (s ∷ ss) root other = elim (cases_Bool (is_last_root last (root_of s))) [
+  | inl placed ↦ rw (placed, not_last last (root_of s) root placed other) (first_after last ss root other)
   | inr next ↦ rw next (elim (cases_Bool (root_of s == root)) [
     | inl here ↦ rw here refl
-    | inr not_here ↦ rw not_here (first_behind (Some (root_of s)) ss root not_here)
+    | inr not_here ↦ rw not_here (first_after (Some (root_of s)) ss root not_here)
   ])
 ] where
   not_last : (o : Option ℕ) (a b : ℕ) → is_last_root o a ≡ true → is_last_root o b ≡ false → (a == b) ≡ false
@@ -25,7 +25,7 @@ first_behind last (s ∷ ss) root other = elim (cases_Bool (is_last_root last (r
 
 pub first_of_root : (ss : List Section) (root : ℕ)
     → find (λ s. root_of s == root) (first_of_each_root None ss) ≡ find (λ s. root_of s == root) ss
-first_of_root ss root = first_behind None ss root refl
+first_of_root ss root = first_after None ss root refl
 
 -- numbers of sections, or of roots, that ascend from n on
 abbrev AscendFrom : (Section → ℕ) → ℕ → List Section → Type 0
@@ -54,18 +54,18 @@ ascend_each f n (s ∷ ss) from zero (suc j) d order within = omega (arith, from
 ascend_each f n (s ∷ ss) from (suc i) (suc j) d order within = ascend_each f (f s + 1) ss from.1 i j d (omega arith) (omega arith)
 ascend_each f n ss from i j d order within = absurd (omega arith)
 
-roots_behind : (last n : ℕ) (ss : List Section) → AscendFrom (λ s. s.number) n ss → last ≤ n / 256
+roots_after : (last n : ℕ) (ss : List Section) → AscendFrom (λ s. s.number) n ss → last ≤ n / 256
     → AscendFrom root_of (last + 1) (first_of_each_root (Some last) ss)
-roots_behind last n [] from reached = tt
-roots_behind last n (s ∷ ss) from reached =
+roots_after last n [] from reached = tt
+roots_after last n (s ∷ ss) from reached =
     elim (cases_Bool (last == root_of s)) [
-      | inl placed ↦ rw placed (roots_behind last (s.number + 1) ss from.1 (grind (arith, nat_tests, placed)))
-      | inr next ↦ rw next (grind (arith, nat_tests, next, from.0), roots_behind (root_of s) (s.number + 1) ss from.1 (omega arith))
+      | inl placed ↦ rw placed (roots_after last (s.number + 1) ss from.1 (grind (arith, nat_tests, placed)))
+      | inr next ↦ rw next (grind (arith, nat_tests, next, from.0), roots_after (root_of s) (s.number + 1) ss from.1 (omega arith))
     ]
 
 firsts_from : (n : ℕ) (ss : List Section) → AscendFrom (λ s. s.number) n ss → AscendFrom root_of 0 (first_of_each_root None ss)
 firsts_from n [] from = tt
-firsts_from n (s ∷ ss) from = (omega arith, roots_behind (root_of s) (s.number + 1) ss from.1 (omega arith))
+firsts_from n (s ∷ ss) from = (omega arith, roots_after (root_of s) (s.number + 1) ss from.1 (omega arith))
 
 pub roots_in_order : (ss : List Section) → AreSectionsInOrder ss → (i j : ℕ) (d : Section) → i < j → j < length (first_of_each_root None ss)
     → root_of (get_or (first_of_each_root None ss) i d) < root_of (get_or (first_of_each_root None ss) j d)

@@ -12,10 +12,10 @@ use Rattle.sparse_sections.specs.Present.{label_of_first_memory_frame, section_l
 
 -- the frame whose label is found: the first one that is memory
 record IsFirst (f : Labels) (a n : ℕ) (label : LabelView) : Type 0 where
-  behind : ℕ
-  within : behind < n
-  told : f (4096 * (a + behind)) ≡ Some label
-  none : (j : ℕ) → j < behind → f (4096 * (a + j)) ≡ None
+  after : ℕ
+  within : after < n
+  told : f (4096 * (a + after)) ≡ Some label
+  none : (j : ℕ) → j < after → f (4096 * (a + j)) ≡ None
 
 -- a frame is memory or isn't
 cases_label : (o : Option LabelView) → (o ≡ None) ⊎ ((v : LabelView) × (o ≡ Some v))
@@ -28,9 +28,9 @@ label-first f a zero label found = cc
 label-first f a (suc n) label found = elim (cases_label (f (4096 * a))) [
   | inl is ↦
       let later = label-first f (a + 1) n label (rw is at found) in
-      let e : a + (later.behind + 1) ≡ a + 1 + later.behind = omega arith in
+      let e : a + (later.after + 1) ≡ a + 1 + later.after = omega arith in
       record {
-        behind = later.behind + 1;
+        after = later.after + 1;
         within = omega (arith, later.within);
         told = rw e later.told;
         none = λ j before. elim (cases_lt 0 j) [
@@ -39,7 +39,7 @@ label-first f a (suc n) label found = elim (cases_label (f (4096 * a))) [
         ];
       }
   | inr some ↦ record {
-    behind = 0;
+    after = 0;
     within = omega arith;
     told = rw add-zero (some.1 ∙ (rw some.1 at found));
     none = λ j before. absurd (omega arith);
@@ -67,7 +67,7 @@ first-lowest : (f : Labels) (n node : ℕ) (label : LabelView) → IsConstantInF
     → HasNodeOfLowestByte f (record { number = n; node = node })
 first-lowest f n node label frames first has =
     record {
-      byte = 4096 * (32768 * n + first.behind);
+      byte = 4096 * (32768 * n + first.after);
       label = label;
       inside = omega (arith, first.within);
       told = first.told;
@@ -119,7 +119,7 @@ told-own : (limit : ℕ) (f : Labels) (n : ℕ) (v : LabelView) (xs : List Secti
     → (i : ℕ) × IsSectionAt (xs ++ section_with_label n (section_label f n)) i n
 told-own limit f n v xs noded is =
     let first : IsFirst f (32768 * n) 32768 v = label-first f (32768 * n) 32768 v is in
-    let has = noded.nodes (4096 * (32768 * n + first.behind)) v first.told in
+    let has = noded.nodes (4096 * (32768 * n + first.after)) v first.told in
     (length xs, rw (is, has.1) (at-end xs (record { number = n; node = has.0 })))
 
 told-below : (limit : ℕ) (f : Labels) (n s k : ℕ) (label : LabelView) → IsMemoryWithNodes limit f → s < n → k < 32768

@@ -4,7 +4,7 @@ use Rattle.std.proofs.Common.{◌≡◌, ℕ, zero, suc, ◌-◌, ◌*◌, ◌/�
 use Rattle.std.specs.List.{All}
 use Rattle.address_runs.specs.Runs.{RunOf, run_end, value_at, IsRunsOf, AreRuns}
 use Rattle.address_runs.specs.Edits.{IsEmptyFrom}
-use Rattle.address_runs.proofs.RunsLaws.{inside, behind, rest_from}
+use Rattle.address_runs.proofs.RunsLaws.{inside, past_end, rest_from}
 use Rattle.memblock_model.specs.declared.owner.Which.TheVariants as which
 use Rattle.memblock_model.specs.declared.item.Item.{Item}
 use Rattle.memblock_model.specs.Labels.{LabelView, Labels}
@@ -28,7 +28,7 @@ told-at (r ∷ rs) zero d runs few = (runs.0, λ at start. start, λ x above und
 told-at (r ∷ rs) (suc k) d runs few =
     let rest = told-at rs k d runs.2 (omega arith) in
     let next : run_end r ≤ (get_or rs k d).base = rest.1 (run_end r) (rest_from r rs runs) in
-    (rest.0, λ at start. omega arith, λ x above under. rw (behind r x (omega arith)) (rest.2 x above under))
+    (rest.0, λ at start. omega arith, λ x above under. rw (past_end r x (omega arith)) (rest.2 x above under))
 
 pub noded-frames : (limit : ℕ) (f : Labels) (rs : List (RunOf LabelView)) → IsRunsOf f rs → IsMemoryWithNodes limit f → AreWholeFrames rs
 noded-frames limit f rs is noded =

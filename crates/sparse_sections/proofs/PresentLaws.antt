@@ -4,7 +4,7 @@ use Rattle.std.specs.List.{All}
 use Rattle.std.proofs.lemmas.List.{append-nil}
 use Rattle.address_runs.specs.Runs.{RunOf, run_end, value_at, AreRuns}
 use Rattle.address_runs.specs.Sweep.{StartAtOrPast}
-use Rattle.address_runs.proofs.RunsLaws.{inside, behind, none_below, rest_from}
+use Rattle.address_runs.proofs.RunsLaws.{inside, past_end, none_below, rest_from}
 use Rattle.memblock_model.specs.Labels.{LabelView, Labels, plain_label}
 use Rattle.memblock_ranges.specs.declared.region.Region.{Region}
 use Rattle.memblock_ranges.specs.Encoding.{region_of}
@@ -72,7 +72,7 @@ left-next f next r rs left =
     record {
       runs = left.runs.2;
       starts = starts-next r rs (0x8000000 * ((run_end r - 1) / 0x8000000 + 1 - 1)) (omega arith) (rest_from r rs left.runs);
-      each = λ x above. rw (behind r x (omega arith)) at (left.each x (omega arith));
+      each = λ x above. rw (past_end r x (omega arith)) at (left.each x (omega arith));
     }
 
 -- the sections with memory after one more record

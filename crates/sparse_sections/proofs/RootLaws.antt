@@ -91,7 +91,7 @@ place_roots-fail e width q sections old new request h =
     (λ table. place_each_root sections >>= λ places. return_value (record { table = table; roots = places }))
     (rw request at h)
 
-place_roots-behind : (r : Result RootsView StageStop) (table : ℕ) (width : Width) (q : Request) (sections : List Section)
+place_roots-after : (r : Result RootsView StageStop) (table : ℕ) (width : Width) (q : Request) (sections : List Section)
     (old mid new : List Item)
     → q ≡ cache_line_request (root_table_size_of width) None
     → EndsAsStage (place_or_stop what.Roots q owner.Roots) error_of_stage_cause (Ok table) old mid
@@ -99,7 +99,7 @@ place_roots-behind : (r : Result RootsView StageStop) (table : ℕ) (width : Wid
     >>= λ places. return_value (record { table = table; roots = places })) error_of_stage_cause r mid new
     → EndsAsStage (place_roots width sections) error_of_stage_cause r old new
 unfolding place_roots
-place_roots-behind r table width q sections old mid new request was h =
+place_roots-after r table width q sections old mid new request was h =
     ends-second table r error_of_stage_cause old mid new
     (place_or_stop what.Roots (cache_line_request (root_table_size_of width) None) owner.Roots)
     (λ table. place_each_root sections >>= λ places. return_value (record { table = table; roots = places }))
@@ -111,7 +111,7 @@ pub place_roots-stop : (e : StageStop) (table : ℕ) (width : Width) (q : Reques
     → EndsAsStage {A = List RootPlace} (place_each_root sections) error_of_stage_cause (Err e) mid new
     → EndsAsStage {A = RootsView} (place_roots width sections) error_of_stage_cause (Err e) old new
 place_roots-stop e table width q sections old mid new request was h =
-    place_roots-behind (Err e) table width q sections old mid new request was
+    place_roots-after (Err e) table width q sections old mid new request was
     (ends-first e error_of_stage_cause mid new (place_each_root sections)
     (λ places. return_value (record { table = table; roots = places })) h)
 
@@ -122,7 +122,7 @@ pub place_roots-all : (table : ℕ) (places : List RootPlace) (width : Width) (q
     → EndsAsStage (place_each_root sections) error_of_stage_cause (Ok places) mid new
     → EndsAsStage (place_roots width sections) error_of_stage_cause (Ok (record { table = table; roots = places })) old new
 place_roots-all table places width q sections old mid new request was h =
-    place_roots-behind (Ok (record { table = table; roots = places })) table width q sections old mid new request was
+    place_roots-after (Ok (record { table = table; roots = places })) table width q sections old mid new request was
     (ends-second places (Ok (record { table = table; roots = places })) error_of_stage_cause mid new new
     (place_each_root sections) (λ places. return_value (record { table = table; roots = places })) h
     (ends-returns (record { table = table; roots = places }) error_of_stage_cause new))

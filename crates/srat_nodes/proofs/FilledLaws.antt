@@ -6,7 +6,7 @@ use Rattle.std.proofs.lemmas.Bool.Decides.{nat_tests}
 use Rattle.std.proofs.lemmas.Option.{none-some, same_Some}
 use Rattle.address_runs.specs.Runs.{run_end, value_at, AreRuns, IsBefore}
 use Rattle.address_runs.specs.Sweep.{StartAtOrPast}
-use Rattle.address_runs.proofs.RunsLaws.{none_below, rest_from, inside, behind}
+use Rattle.address_runs.proofs.RunsLaws.{none_below, rest_from, inside, past_end}
 use Rattle.srat_nodes.specs.NodeAt.{NumaBlock}
 use Rattle.srat_nodes.specs.Steps.{fill_gaps, prepend_joined}
 
@@ -50,12 +50,12 @@ at_below r rs x runs lt = let start : StartAtOrPast r.base (r ∷ rs) = omega ar
 at_inside : (r : NumaBlock) (rs : List NumaBlock) (x : ℕ) → r.base ≤ x → x < run_end r → value_at (r ∷ rs) x ≡ Some r.value
 at_inside r rs x above under = rw (inside r x above under) refl
 
-at_behind : (r : NumaBlock) (rs : List NumaBlock) (x : ℕ) → run_end r ≤ x → value_at (r ∷ rs) x ≡ value_at rs x
-at_behind r rs x from = rw (behind r x from) refl
+at_after : (r : NumaBlock) (rs : List NumaBlock) (x : ℕ) → run_end r ≤ x → value_at (r ∷ rs) x ≡ value_at rs x
+at_after r rs x from = rw (past_end r x from) refl
 
 -- an address that the rest of the runs contains is above the first run
-rest_behind : (r : NumaBlock) (rs : List NumaBlock) (x n : ℕ) → AreRuns (r ∷ rs) → value_at rs x ≡ Some n → run_end r ≤ x
-rest_behind r rs x n runs some =
+rest_after : (r : NumaBlock) (rs : List NumaBlock) (x n : ℕ) → AreRuns (r ∷ rs) → value_at rs x ≡ Some n → run_end r ≤ x
+rest_after r rs x n runs some =
     le_of_suc-le-suc (lt_of_not-le (λ lt. none-some n (sym (none_below (run_end r) x rs runs.2 (rest_from r rs runs) lt) ∙ some)))
 
 -- two functions that agree from the lower address of a gap on fill the gap in the same way
@@ -72,21 +72,21 @@ moved f g x n around same = record {
 
 -- a gap that is filled in the rest of the runs is filled in the whole list
 lifted : (r : NumaBlock) (rs : List NumaBlock) (x n : ℕ) → AreRuns (r ∷ rs) → IsFilled (value_at rs) x n → IsFilled (value_at (r ∷ rs)) x n
-lifted r rs x n runs (inl here) = inl (at_behind r rs x (rest_behind r rs x n runs here) ∙ here)
+lifted r rs x n runs (inl here) = inl (at_after r rs x (rest_after r rs x n runs here) ∙ here)
 lifted r rs x n runs (inr around) =
-    let from : run_end r ≤ around.low = rest_behind r rs around.low n runs around.at_low in
-    inr (moved (value_at rs) (value_at (r ∷ rs)) x n around (λ y above. at_behind r rs y (omega arith)))
+    let from : run_end r ≤ around.low = rest_after r rs around.low n runs around.at_low in
+    inr (moved (value_at rs) (value_at (r ∷ rs)) x n around (λ y above. at_after r rs y (omega arith)))
 
 -- a gap of the whole list that begins above the first run is filled in the rest of the runs
 lowered : (r : NumaBlock) (rs : List NumaBlock) (x n : ℕ) → (around : IsAround (value_at (r ∷ rs)) x n) → run_end r ≤ around.low
     → IsAround (value_at rs) x n
 lowered r rs x n around from =
-    moved (value_at (r ∷ rs)) (value_at rs) x n around (λ y above. sym (at_behind r rs y (omega arith)))
+    moved (value_at (r ∷ rs)) (value_at rs) x n around (λ y above. sym (at_after r rs y (omega arith)))
 
 -- the higher address of a gap that begins above the first run is in the rest of the runs
 high_given : (r : NumaBlock) (rs : List NumaBlock) (x n : ℕ) → (around : IsAround (value_at (r ∷ rs)) x n) → run_end r ≤ x
     → value_at rs around.high ≡ Some n
-high_given r rs x n around from = sym (at_behind r rs around.high (omega (arith, around.over))) ∙ around.at_high
+high_given r rs x n around from = sym (at_after r rs around.high (omega (arith, around.over))) ∙ around.at_high
 
 -- the first joined run begins where a run begins
 first_value : (rs : List NumaBlock) (t : NumaBlock) (us : List NumaBlock) → IsFilledBy rs (t ∷ us) → value_at rs t.base ≡ Some t.value
@@ -113,11 +113,11 @@ next_value : (r : NumaBlock) (rs : List NumaBlock) (t : NumaBlock) (us : List Nu
     → (around : IsAround (value_at (r ∷ rs)) x n) → around.low < run_end r → run_end r ≤ x → t.value ≡ n
 next_value r rs t us x n runs known around low_in from =
     let first : value_at rs t.base ≡ Some t.value = first_value rs t us known in
-    let above : run_end r ≤ t.base = rest_behind r rs t.base t.value runs first in
+    let above : run_end r ≤ t.base = rest_after r rs t.base t.value runs first in
     let reached : value_at (t ∷ us) around.high ≡ Some n = known.complete around.high n (inl (high_given r rs x n around from)) in
     elim (cases_lt around.high t.base) as (λ _. t.value ≡ n) [
       | inl short ↦ absurd (none-some n (sym (at_below t us around.high known.runs short) ∙ reached))
-      | inr long ↦ around.only t.base t.value (omega arith) long (at_behind r rs t.base above ∙ first)
+      | inr long ↦ around.only t.base t.value (omega arith) long (at_after r rs t.base above ∙ first)
     ]
 
 -- the three ways in which the whole list gives an address a node: by its first run, by the rest,
@@ -135,10 +135,10 @@ reached_by r rs x n runs (Below lt) (inr around) =
 reached_by r rs x n runs (Inside above under) (inl here) = InFirst above under (low_value r rs x n runs here under)
 reached_by r rs x n runs (Inside above under) (inr around) =
     InFirst above under (around.only x r.value (omega (arith, around.under)) (omega (arith, around.over)) (at_inside r rs x above under))
-reached_by r rs x n runs (Behind from) (inl here) = InRest from (inl (sym (at_behind r rs x from) ∙ here))
+reached_by r rs x n runs (Behind from) (inl here) = InRest from (inl (sym (at_after r rs x from) ∙ here))
 reached_by r rs x n runs (Behind from) (inr around) = elim (cases_lt around.low (run_end r)) as (λ _. Reached r rs x n) [
   | inl in_run ↦ Across from around in_run (low_value r rs around.low n runs around.at_low in_run)
-  | inr behind_run ↦ InRest from (inr (lowered r rs x n around behind_run))
+  | inr after_run ↦ InRest from (inr (lowered r rs x n around after_run))
 ]
 
 -- the first run isn't joined with another if no gap reaches from it to an address above
@@ -150,11 +150,11 @@ alone_step r rs ts runs known canonical none_across = record {
   sound = λ x n some. elim (place r x) as (λ _. IsFilled (value_at (r ∷ rs)) x n) [
     | Below lt ↦ absurd (none-some n (sym (at_below r ts x canonical lt) ∙ some))
     | Inside in_run under ↦ inl (at_inside r rs x in_run under ∙ sym (at_inside r ts x in_run under) ∙ some)
-    | Behind from ↦ lifted r rs x n runs (known.sound x n (sym (at_behind r ts x from) ∙ some))
+    | Behind from ↦ lifted r rs x n runs (known.sound x n (sym (at_after r ts x from) ∙ some))
   ];
   complete = λ x n filling. elim (reached_by r rs x n runs (place r x) filling) as (λ _. value_at (r ∷ ts) x ≡ Some n) [
     | InFirst in_run under same ↦ at_inside r ts x in_run under ∙ ap (λ m. Some m) same
-    | InRest from rest ↦ at_behind r ts x from ∙ known.complete x n rest
+    | InRest from rest ↦ at_after r ts x from ∙ known.complete x n rest
     | Across from around low_in same ↦ absurd (none_across x n around low_in from same)
   ];
 }
@@ -164,7 +164,7 @@ apart_step : (r : NumaBlock) (rs : List NumaBlock) (t : NumaBlock) (us : List Nu
     → r.value ≢ t.value
     → IsFilledBy (r ∷ rs) (r ∷ (t ∷ us))
 apart_step r rs t us runs known other =
-    let above : run_end r ≤ t.base = rest_behind r rs t.base t.value runs (first_value rs t us known) in
+    let above : run_end r ≤ t.base = rest_after r rs t.base t.value runs (first_value rs t us known) in
     alone_step r rs (t ∷ us) runs known (runs.0, (above, λ touch. other), known.runs)
     (λ x n around low_in from same. other (same ∙ sym (next_value r rs t us x n runs known around low_in from)))
 
@@ -181,7 +181,7 @@ span_same : (r t : NumaBlock) (us : List NumaBlock) (x : ℕ) → r.base ≤ t.b
     → value_at (spanning r t ∷ us) x ≡ value_at (t ∷ us) x
 span_same r t us x order same from = elim (cases_lt x (run_end t)) as (λ _. value_at (spanning r t ∷ us) x ≡ value_at (t ∷ us) x) [
   | inl under ↦ at_inside (spanning r t) us x (omega arith) (omega arith) ∙ ap (λ m. Some m) same ∙ sym (at_inside t us x from under)
-  | inr past ↦ at_behind (spanning r t) us x (omega arith) ∙ sym (at_behind t us x past)
+  | inr past ↦ at_after (spanning r t) us x (omega arith) ∙ sym (at_after t us x past)
 ]
 
 -- each address between the first run and the next joined run of the same node is in a gap of that
@@ -197,11 +197,11 @@ gap_around r rs t us x runs known same from under =
       under = omega arith;
       over = under;
       at_low = at_inside r rs r.base (omega arith) (omega arith);
-      at_high = at_behind r rs t.base (omega arith) ∙ first ∙ ap (λ m. Some m) (sym same);
+      at_high = at_after r rs t.base (omega arith) ∙ first ∙ ap (λ m. Some m) (sym same);
       only = λ y m above below_high given. elim (cases_lt y (run_end r)) as (λ _. m ≡ r.value) [
         | inl in_run ↦ sym (low_value r rs y m runs given in_run)
         | inr past ↦
-            let rest : value_at rs y ≡ Some m = sym (at_behind r rs y past) ∙ given in
+            let rest : value_at rs y ≡ Some m = sym (at_after r rs y past) ∙ given in
             let joined : value_at (t ∷ us) y ≡ Some m = known.complete y m (inl rest) in
             elim (cases_lt y t.base) as (λ _. m ≡ r.value) [
               | inl short ↦ absurd (none-some m (sym (at_below t us y known.runs short) ∙ joined))
@@ -220,7 +220,7 @@ across_rest : (r : NumaBlock) (rs : List NumaBlock) (t : NumaBlock) (us : List N
 across_rest r rs t us x n runs known around low_in from reach =
     let node : t.value ≡ n = next_value r rs t us x n runs known around low_in from in
     let first : value_at rs t.base ≡ Some t.value = first_value rs t us known in
-    let above : run_end r ≤ t.base = rest_behind r rs t.base t.value runs first in
+    let above : run_end r ≤ t.base = rest_after r rs t.base t.value runs first in
     elim (cases_lt t.base x) as (λ _. value_at (t ∷ us) x ≡ Some n) [
       | inl past ↦ known.complete x n (inr (record {
         low = t.base;
@@ -229,7 +229,7 @@ across_rest r rs t us x n runs known around low_in from reach =
         over = around.over;
         at_low = first ∙ ap (λ m. Some m) node;
         at_high = high_given r rs x n around from;
-        only = λ y m from_low to_high some. around.only y m (omega arith) to_high (at_behind r rs y (omega arith) ∙ some);
+        only = λ y m from_low to_high some. around.only y m (omega arith) to_high (at_after r rs y (omega arith) ∙ some);
       }))
       | inr here ↦
           let at : t.base ≡ x = omega arith in
@@ -240,7 +240,7 @@ same_step : (r : NumaBlock) (rs : List NumaBlock) (t : NumaBlock) (us : List Num
     → r.value ≡ t.value
     → IsFilledBy (r ∷ rs) (spanning r t ∷ us)
 same_step r rs t us runs known same =
-    let above : run_end r ≤ t.base = rest_behind r rs t.base t.value runs (first_value rs t us known) in
+    let above : run_end r ≤ t.base = rest_after r rs t.base t.value runs (first_value rs t us known) in
     let some : 0 < r.size = runs.0 in
     let order : r.base ≤ t.base = omega arith in
     let canonical : AreRuns (spanning r t ∷ us) =

@@ -63,9 +63,9 @@ node_stays domains more d named =
     (get_or_append_left domains more 0 (node_of_domain domains d) below ∙ place.there)
     (λ k less. ap (λ (c : ℕ). c == d) (get_or_append_left domains more 0 k (omega (arith, less, below))) ∙ place.first k less)
 
-node_behind : (domains more : List ℕ) (d : ℕ) → is_named_domain domains d ≡ false → is_named_domain (domains ++ more) d ≡ true
+node_after : (domains more : List ℕ) (d : ℕ) → is_named_domain domains d ≡ false → is_named_domain (domains ++ more) d ≡ true
     → length domains ≤ node_of_domain (domains ++ more) d
-node_behind domains more d new named = le_of_suc-le-suc (lt_of_not-le (λ before.
+node_after domains more d new named = le_of_suc-le-suc (lt_of_not-le (λ before.
     let node : ℕ = node_of_domain (domains ++ more) d in
     true≢false (sym (is_named_at domains node d before
     (sym (get_or_append_left domains more 0 node before) ∙ (place_of (domains ++ more) d named).there)) ∙ new)))
@@ -82,13 +82,13 @@ places_with domains d places = elim (cases_Bool (is_named_domain domains d)) as 
         | inl before ↦
             rw (get_or_append_left domains (d ∷ []) 0 n before)
             (node_stays domains (d ∷ []) (get_or domains n 0) (is_named_at domains n (get_or domains n 0) before refl) ∙ places n before)
-        | inr behind ↦
+        | inr after ↦
             let long : length (domains ++ d ∷ []) ≡ length domains + 1 = length-append domains (d ∷ []) in
-            let last : n ≡ length domains = omega (arith, within, behind, long) in
+            let last : n ≡ length domains = omega (arith, within, after, long) in
             let is : get_or (domains ++ d ∷ []) n 0 ≡ d =
             ap (λ (k : ℕ). get_or (domains ++ d ∷ []) k 0) last ∙ get_or-append_seam domains d [] 0 in
             let named : is_named_domain (domains ++ d ∷ []) d ≡ true = is_named_at (domains ++ d ∷ []) n d within is in
-            rw is (omega (arith, last, node_behind domains (d ∷ []) d new named, node_below (domains ++ d ∷ []) d named, long))
+            rw is (omega (arith, last, node_after domains (d ∷ []) d new named, node_below (domains ++ d ∷ []) d named, long))
       ])
 ]
 
@@ -101,14 +101,14 @@ unfolding domains_once
 node_at_place names = places_all [] names (λ n within. absurd (omega arith))
 
 -- a domain that is named before another has the lower node
-order_behind : (domains names : List ℕ) (d e : ℕ) → is_named_domain domains d ≡ true → is_named_domain domains e ≡ false
+order_after : (domains names : List ℕ) (d e : ℕ) → is_named_domain domains d ≡ true → is_named_domain domains e ≡ false
     → is_named_domain names e ≡ true
     → node_of_domain (fold with_domain domains names) d < node_of_domain (fold with_domain domains names) e
-order_behind domains names d e named new later =
-    let behind = extended domains names in
-    let there : is_named_domain (domains ++ behind.0) e ≡ true =
-    subst (λ (ds : List ℕ). is_named_domain ds e ≡ true) behind.1 (named_all domains names e ∙ rw (new, later) refl) in
-    rw behind.1 (omega (arith, node_stays domains behind.0 d named, node_below domains d named, node_behind domains behind.0 e new there))
+order_after domains names d e named new later =
+    let after = extended domains names in
+    let there : is_named_domain (domains ++ after.0) e ≡ true =
+    subst (λ (ds : List ℕ). is_named_domain ds e ≡ true) after.1 (named_all domains names e ∙ rw (new, later) refl) in
+    rw after.1 (omega (arith, node_stays domains after.0 d named, node_below domains d named, node_after domains after.0 e new there))
 
 pub order_of_naming : (before after : List ℕ) (d e : ℕ) → is_named_domain before e ≡ false → d ≢ e → is_named_domain after e ≡ true
     → node_of_domain (domains_once (before ++ d ∷ after)) d < node_of_domain (domains_once (before ++ d ∷ after)) e
@@ -118,4 +118,4 @@ order_of_naming before after d e new other later =
     let named : is_named_domain (with_domain so_far d) d ≡ true = named_with so_far d d ∙ or_right _ _ (eq-eqb d d refl) in
     let not_yet : is_named_domain (with_domain so_far d) e ≡ false =
     named_with so_far d e ∙ rw (ne_eqb d e other, named_all [] before e, new) refl in
-    rw (fold-append with_domain [] before (d ∷ after)) (order_behind (with_domain so_far d) after d e named not_yet later)
+    rw (fold-append with_domain [] before (d ∷ after)) (order_after (with_domain so_far d) after d e named not_yet later)

@@ -103,7 +103,7 @@ joined_around blocks n x apart some joined =
     let b = inner.one in
     let of_b = and_parts (b.value == n) _ inner.passes in
     let between_own = and_parts (lies_between_blocks a b x) (meets_no_other_node blocks n a b) of_b.1 in
-    let a_behind : run_end a ≤ x = grind (arith, nat_tests, between_own.0) in
+    let a_after : run_end a ≤ x = grind (arith, nat_tests, between_own.0) in
     let b_before : x < b.base = grind (arith, nat_tests, between_own.0) in
     let a_some : 0 < a.size = some_address blocks a some outer.member in
     let b_some : 0 < b.size = some_address blocks b some inner.member in

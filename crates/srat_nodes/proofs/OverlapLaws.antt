@@ -111,7 +111,7 @@ with_first : (n : ℕ) (c : KeptBlock) (cs : List KeptBlock) (i j : ℕ) → Num
     → WithFirst c cs i j ⊎ Overlap cs i j
 with_first n c cs i j numbered o =
     let number : (a b : KeptBlock) → a ≡ b → a.number ≡ b.number = λ a b same. ap (λ (k : KeptBlock). k.number) same in
-    let behind : (k : KeptBlock) → IsIn k cs → c.number + 1 ≤ k.number = λ k member. number_from (c.number + 1) cs k numbered.1 member in
+    let after : (k : KeptBlock) → IsIn k cs → c.number + 1 ≤ k.number = λ k member. number_from (c.number + 1) cs k numbered.1 member in
     elim o.in_one as (λ _. WithFirst c cs i j ⊎ Overlap cs i j) [
       | inl here ↦ elim o.in_other as (λ _. WithFirst c cs i j ⊎ Overlap cs i j) [
         | inl too ↦ absurd (omega (arith, o.first, o.second, o.order, number o.one c here, number o.other c too))
@@ -124,7 +124,7 @@ with_first n c cs i j numbered o =
         })
       ]
       | inr later ↦ elim o.in_other as (λ _. WithFirst c cs i j ⊎ Overlap cs i j) [
-        | inl here ↦ absurd (omega (arith, o.first, o.second, o.order, behind o.one later, number o.other c here))
+        | inl here ↦ absurd (omega (arith, o.first, o.second, o.order, after o.one later, number o.other c here))
         | inr too ↦ inr (record {
           one = o.one;
           other = o.other;

@@ -11,7 +11,7 @@ use Rattle.address_runs.specs.Overlay.{overlay_runs, HaveAddresses}
 use Rattle.address_runs.specs.Runs.{RunOf, run_end, lies_in, value_at, AreRuns, IsBefore, IsRunsOf}
 use Rattle.address_runs.specs.Sweep.{StartAtOrPast}
 use Rattle.address_runs.proofs.OverlayLaws.{overlay_runs-append}
-use Rattle.address_runs.proofs.RunsLaws.{none_below, rest_from, another_value_at_run_end, inside, behind}
+use Rattle.address_runs.proofs.RunsLaws.{none_below, rest_from, another_value_at_run_end, inside, past_end}
 use Rattle.bm_base.specs.Range.{RangeView, covers}
 use Rattle.e820_model.specs.Usable.{count_below}
 use Rattle.e820_model.proofs.UsableLaws.{count_same, count_none, count_either, count_interval, count_at_most}
@@ -49,8 +49,8 @@ run_without_node-HaveAddresses (r ∷ rs) some = (some.0, run_without_node-HaveA
 
 run_with_node-HaveAddresses : (joined : List NumaBlock) (ss : List (RunOf Bool)) → AreRuns joined → HaveAddresses ss
     → HaveAddresses (map run_with_node joined ++ ss)
-run_with_node-HaveAddresses [] ss runs behind_some = behind_some
-run_with_node-HaveAddresses (r ∷ rs) ss runs behind_some = (runs.0, run_with_node-HaveAddresses rs ss runs.2 behind_some)
+run_with_node-HaveAddresses [] ss runs after_some = after_some
+run_with_node-HaveAddresses (r ∷ rs) ss runs after_some = (runs.0, run_with_node-HaveAddresses rs ss runs.2 after_some)
 
 pub marked_runs-HaveAddresses : (memory : List RangeView) (joined : List NumaBlock) → NoMemoryIsEmpty memory → AreRuns joined
     → HaveAddresses (map run_with_node joined ++ map run_without_node memory)
@@ -178,7 +178,7 @@ space_given n before c space ends =
 pub space_none : (rs : List NumaBlock) (x : ℕ) → EndInSpace rs → 2 ^ 64 ≤ x → value_at rs x ≡ None
 space_none [] x space far = refl
 space_none (r ∷ rs) x space far =
-    rw (behind r x (omega (arith, space.0))) (space_none rs x space.1 far)
+    rw (past_end r x (omega (arith, space.0))) (space_none rs x space.1 far)
 
 -- the number of frames that begin in a run, and in the runs after it
 begun_in : (r : NumaBlock) (frame : ℕ) → lies_in r (4096 * frame) ≡ (nat_le (count_frames_below r.base) frame

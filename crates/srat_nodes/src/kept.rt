@@ -24,8 +24,8 @@ pub fn runs_overlap(first: &NodeRange, second: &NodeRange) -> bool
     ensures { result ≡ block_meets first.now.base (run_end first.now) second.now }
 {
     let from = first.range.base.max(second.range.base);
-    let behind = first.range.end().min(second.range.end());
-    from < behind
+    let to = first.range.end().min(second.range.end());
+    from < to
 }
 
 /// A block of the SRAT that is kept, since it contains a byte of memory after its ends have been

@@ -40,16 +40,16 @@ one_step : (n m at : ℕ) (bytes : List ℕ)
     → entry_offsets_from n (at + entry_length_at at bytes) bytes ≡ entry_offsets_from m (at + entry_length_at at bytes) bytes)
     → (ended whole : Bool) → nat_le (length bytes) at ≡ ended → is_whole_entry at bytes ≡ whole
     → entry_offsets_from (suc n) at bytes ≡ entry_offsets_from (suc m) at bytes
-one_step n m at bytes behind true whole ended is =
+one_step n m at bytes after true whole ended is =
     let end : length bytes ≤ at = grind (arith, nat_tests) in
     from_end (suc n) at bytes end ∙ sym (from_end (suc m) at bytes end)
-one_step n m at bytes behind false false before broken =
+one_step n m at bytes after false false before broken =
     let here : at < length bytes = grind (arith, nat_tests) in
     from_broken n at bytes here broken ∙ sym (from_broken m at bytes here broken)
-one_step n m at bytes behind false true before whole =
+one_step n m at bytes after false true before whole =
     let here : at < length bytes = grind (arith, nat_tests) in
     from_whole n at bytes here whole
-    ∙ ap (λ rest. at ∷ rest) (behind (whole_bounds at bytes whole).1)
+    ∙ ap (λ rest. at ∷ rest) (after (whole_bounds at bytes whole).1)
     ∙ sym (from_whole m at bytes here whole)
 
 -- two bounds that both reach the end of the table give the same entries
@@ -148,9 +148,9 @@ not_memory bytes (at ∷ rest) is =
     by (not_memory bytes rest) (is_whole_entry at bytes) (is_block_too_far (srat_entry_at at bytes)) refl refl is where
       by : first_srat_fault bytes rest ≢ Some faults.Memory → (whole far : Bool) → is_whole_entry at bytes ≡ whole
           → is_block_too_far (srat_entry_at at bytes) ≡ far → first_srat_fault bytes (at ∷ rest) ≢ Some faults.Memory
-      by behind false far broken is said = let named = rw (broken) at said in cc
-      by behind true true whole far said = let named = rw (whole, far) at said in cc
-      by behind true false whole near said = behind (rw (whole, near) at said)
+      by after false far broken is said = let named = rw (broken) at said in cc
+      by after true true whole far said = let named = rw (whole, far) at said in cc
+      by after true false whole near said = after (rw (whole, near) at said)
 
 -- there are no more entries than bytes
 few_offsets : (n at : ℕ) (bytes : List ℕ) → length (entry_offsets_from n at bytes) ≤ n
@@ -161,16 +161,16 @@ few_offsets (suc n) at bytes =
       by : length (entry_offsets_from n (at + entry_length_at at bytes) bytes) ≤ n
           → (ended whole : Bool) → nat_le (length bytes) at ≡ ended → is_whole_entry at bytes ≡ whole
           → length (entry_offsets_from (suc n) at bytes) ≤ suc n
-      by behind true whole ended is = rw ended (omega arith)
-      by behind false false before broken = rw (before, broken) (omega arith)
-      by behind false true before whole = rw (before, whole) (omega arith)
+      by after true whole ended is = rw ended (omega arith)
+      by after false false before broken = rw (before, broken) (omega arith)
+      by after false true before whole = rw (before, whole) (omega arith)
 
 few_kept : {X : Type 0} (f : ℕ → Option X) (xs : List ℕ) → length (filter_map f xs) ≤ length xs
 few_kept f [] = omega arith
 few_kept {X} f (x ∷ xs) = by (few_kept f xs) (f x) refl where
   by : length (filter_map f xs) ≤ length xs → (o : Option X) → f x ≡ o → length (filter_map f (x ∷ xs)) ≤ length (x ∷ xs)
-  by behind None is = rw is (omega arith)
-  by behind (Some y) is = rw is (omega arith)
+  by after None is = rw is (omega arith)
+  by after (Some y) is = rw is (omega arith)
 
 pub few_entries : {X : Type 0} (f : ℕ → Option X) (bytes : List ℕ) → length (filter_map f (entry_offsets bytes)) ≤ length bytes
 few_entries f bytes = omega (arith, few_kept f (entry_offsets bytes), few_offsets (length bytes) 48 bytes)

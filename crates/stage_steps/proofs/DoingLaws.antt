@@ -19,8 +19,8 @@ append_groups-joined items [] = sym (append-nil items)
 append_groups-joined items (s ∷ ss) = append_groups-joined (items ++ s) ss ∙ append_assoc items s (items_of_steps ss)
 
 -- all groups of the first step are written, and some of the second
-cut-behind : (old new : List Item) (a b : List (List Item)) → StopsBeforeStep (append_groups old a) new b → StopsBeforeStep old new (a ++ b)
-cut-behind old new a b cut = cut-second old new a b (rw (append_groups-joined old a) at cut)
+cut-after : (old new : List Item) (a b : List (List Item)) → StopsBeforeStep (append_groups old a) new b → StopsBeforeStep old new (a ++ b)
+cut-after old new a b cut = cut-second old new a b (rw (append_groups-joined old a) at cut)
 
 cut_by : {E A B : Type 0} (answer : Result A E) (old new : List Item) (steps : List (List Item)) (next : A → StepEffect E B)
     → StopsBeforeStep old new steps → StopsBeforeStep old new (continue_if_ok steps answer next).steps
@@ -38,7 +38,7 @@ module _ {E F A B : Type 0} where
       let second = (next a (items_after_step old (f old))).steps in
       rw was.0 (⊎_elim
       (λ told. inl (told.0, told.1, told.2, told.3 ∙ sym (append_groups-append old (f old).steps second)))
-      (λ cut. inr (cut.0, cut-behind old new (f old).steps second cut.1)) (rw was.1 at h))
+      (λ cut. inr (cut.0, cut-after old new (f old).steps second cut.1)) (rw was.1 at h))
 
   -- how two steps end if the first failed, or this program ran out of memory in it
   pub ends-first : (e : F) (error : Option E → F) (old new : List Item) (f : StageStep E A) (next : A → StageStep E B)

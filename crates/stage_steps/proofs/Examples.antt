@@ -75,5 +75,5 @@ half_a_frame same = let wrong = same 2048 in cc wrong
 abbrev of_node_3 : LabelView
 of_node_3 = with_node (Some 3) plain_label
 
-frame_behind_the_limit : IsMemoryWithNodes 4096 (λ x. if nat_lt x 8192 then Some of_node_3 else None) → ⊥
-frame_behind_the_limit noded = let wrong = noded.within 4096 (omega arith) in cc wrong
+frame_after_the_limit : IsMemoryWithNodes 4096 (λ x. if nat_lt x 8192 then Some of_node_3 else None) → ⊥
+frame_after_the_limit noded = let wrong = noded.within 4096 (omega arith) in cc wrong

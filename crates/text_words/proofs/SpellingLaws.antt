@@ -34,8 +34,8 @@ first_part s false (a ∷ text) close = by_test (separates s a) refl (first_part
   where
     by_test : (t : Bool) → separates s a ≡ t → FirstPart s (quoted_after s false a) text → FirstPart s false (a ∷ text)
     by_test true is found =
-        let behind : QuotesClose s false text = rw (separator-quotes s a is) at close in
-        inr ([], a, text, refl, refl, is, behind)
+        let after : QuotesClose s false text = rw (separator-quotes s a is) at close in
+        inr ([], a, text, refl, refl, is, after)
     by_test false is (inl closed) = inl (is, closed)
     by_test false is (inr found) =
         inr (a ∷ found.0, found.1, found.2, ap (λ (bs : List ℕ). a ∷ bs) found.3, (is, found.4), found.5, found.6)
@@ -72,10 +72,10 @@ words_within s (suc most) text short close = by_part (first_part s false text cl
 
 pub has_words : (s : Separators) (text : List ℕ) (words : List (List ℕ)) → HasWords s text words → words_in s text ≡ words
 has_words s text words no_byte = refl
-has_words s text words (blank_first b behind ws is rest) = rw is (has_words s behind ws rest)
+has_words s text words (blank_first b after ws is rest) = rw is (has_words s after ws rest)
 has_words s text words (word_alone word is) = words-one s word is
-has_words s text words (word_first word b behind ws is blank rest) =
-    words-spelled s word b behind is blank ∙ ap (λ (ws : List (List ℕ)). word ∷ ws) (has_words s behind ws rest)
+has_words s text words (word_first word b after ws is blank rest) =
+    words-spelled s word b after is blank ∙ ap (λ (ws : List (List ℕ)). word ∷ ws) (has_words s after ws rest)
 
 pub words_exactly : (s : Separators) (text : List ℕ) (words : List (List ℕ)) → QuotesClose s false text
     → words_in s text ≡ words ↔ HasWords s text words

@@ -24,11 +24,11 @@ pub fn next_word(text: &[u8], separators: Separators) -> Option<(&[u8], &[u8])>
 {
     let mut rest = Some(text);
     while let Some(text) = rest {
-        let (part, behind) = next_part(text, separators);
+        let (part, after) = next_part(text, separators);
         if !part.is_empty() {
-            return Some((part, behind.unwrap_or(&[])));
+            return Some((part, after.unwrap_or(&[])));
         }
-        rest = behind;
+        rest = after;
     }
     None
 }

@@ -30,11 +30,11 @@ span_grown : (f : Frames) (n at until m : ℕ) (w : Zone) → IsEmptyFrom at f �
 span_grown f n at until m w nothing some low zones =
     let g : Frames = frames_with_node_run at until n f in
     let k : ℕ = until - at - 1 in
-    let behind = skip g n w until (m - until) (λ x above below. grind (arith, nat_tests, nothing x)) in
+    let after = skip g n w until (m - until) (λ x above below. grind (arith, nat_tests, nothing x)) in
     let grown = grow g n w at k (λ x above below. grind (arith, nat_tests, zones x, zone_self w)) in
     let same = same_below g f n w at (λ x before. grind (arith, nat_tests)) in
     let bare = skip f n w at (m - at) (λ x above below. rw (nothing x above) refl) in
-    grind (arith, behind, grown, same, bare)
+    grind (arith, after, grown, same, bare)
 
 -- frames of another node or zone change nothing
 span_other : (f : Frames) (n k at until m : ℕ) (z w : Zone) → IsEmptyFrom at f → ((x : ℕ) → at ≤ x → x < until → zone_of x ≡ w)
@@ -61,8 +61,8 @@ run_parts first at until n f order order_too =
     λ x. grind (arith, nat_tests) in
     λ j x. same x j
 
-pub nothing_behind : (first at n : ℕ) (f : Frames) → first ≤ at → IsEmptyFrom first f → IsEmptyFrom at (frames_with_node_run first at n f)
-nothing_behind first at n f order nothing x above = grind (arith, nat_tests, nothing x)
+pub nothing_after : (first at n : ℕ) (f : Frames) → first ≤ at → IsEmptyFrom first f → IsEmptyFrom at (frames_with_node_run first at n f)
+nothing_after first at n f order nothing x above = grind (arith, nat_tests, nothing x)
 
 -- the bound rises with the frames
 pub bounded_more : (k at until : ℕ) (w : Zone) (old new : List (Option Span)) → at ≤ until → SpansHaveAtMost at old

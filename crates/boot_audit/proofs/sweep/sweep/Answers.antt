@@ -14,13 +14,13 @@ loop-at-init c =
       near = omega arith;
       from_near = omega arith;
       run_order = c.skip_lines_below-runs.ensures.order;
-      run_behind = c.skip_lines_below-runs.ensures.behind;
+      run_after = c.skip_lines_below-runs.ensures.after;
       run_same = λ x above. rw c.deref.ensures.value at (c.skip_lines_below-runs.ensures.says x above);
       owner_order = c.skip_lines_below-owners.ensures.order;
-      owner_behind = c.skip_lines_below-owners.ensures.behind;
+      owner_after = c.skip_lines_below-owners.ensures.after;
       owner_same = λ x above. rw c.deref-2.ensures.value at (c.skip_lines_below-owners.ensures.says x above);
       held_order = c.skip_lines_below-held.ensures.order;
-      held_behind = c.skip_lines_below-held.ensures.behind;
+      held_after = c.skip_lines_below-held.ensures.after;
       held_same = λ x above. rw c.deref-3.ensures.value at (c.skip_lines_below-held.ensures.says x above);
       none_bad = λ x below. absurd (omega arith);
       so_far = at_start (byte_state_at c.args.limit s.map.items s.owners.items s.blocks.items)
@@ -62,13 +62,13 @@ loop-at-preserved c =
           (bytes_tell c.args.limit s.map.items s.owners.items s.blocks.items c.requires.aligned)
           c.loop-at.from until c.loop-at.lost c.state_run_from-piece.result.state inv.from_near p.near);
       run_order = c.skip_lines_below-runs-in-loop-at.ensures.order;
-      run_behind = c.skip_lines_below-runs-in-loop-at.ensures.behind;
+      run_after = c.skip_lines_below-runs-in-loop-at.ensures.after;
       run_same = λ x above. c.skip_lines_below-runs-in-loop-at.ensures.says x above ∙ inv.run_same x (omega (arith, p.forward));
       owner_order = c.skip_lines_below-owners-in-loop-at.ensures.order;
-      owner_behind = c.skip_lines_below-owners-in-loop-at.ensures.behind;
+      owner_after = c.skip_lines_below-owners-in-loop-at.ensures.after;
       owner_same = λ x above. c.skip_lines_below-owners-in-loop-at.ensures.says x above ∙ inv.owner_same x (omega (arith, p.forward));
       held_order = c.skip_lines_below-held-in-loop-at.ensures.order;
-      held_behind = c.skip_lines_below-held-in-loop-at.ensures.behind;
+      held_after = c.skip_lines_below-held-in-loop-at.ensures.after;
       held_same = λ x above. c.skip_lines_below-held-in-loop-at.ensures.says x above ∙ inv.held_same x (omega (arith, p.forward));
       none_bad = λ x below. elim
           (cases_lt x c.loop-at.at) as (λ _. byte_state_at c.args.limit s.map.items s.owners.items s.blocks.items x ≢ states.NotFree) [

@@ -13,13 +13,13 @@ invariant-loop-at l = record {
   near : l.at ≤ 2 ^ 52;
   from_near : l.from ≤ 2 ^ 52;
   run_order : AscendApart (map (λ r. r.range) l.runs);
-  run_behind : FirstEndsAbove l.at (map (λ r. r.range) l.runs);
+  run_after : FirstEndsAbove l.at (map (λ r. r.range) l.runs);
   run_same : (x : ℕ) → l.at ≤ x → is_in_memory l.runs x ≡ is_in_memory l.saved.map.items x;
   owner_order : AscendApart (map (λ r. r) l.owners);
-  owner_behind : FirstEndsAbove l.at (map (λ r. r) l.owners);
+  owner_after : FirstEndsAbove l.at (map (λ r. r) l.owners);
   owner_same : (x : ℕ) → l.at ≤ x → has_owner l.owners x ≡ has_owner l.saved.owners.items x;
   held_order : AscendApart (map bytes_of_block l.held);
-  held_behind : FirstEndsAbove l.at (map bytes_of_block l.held);
+  held_after : FirstEndsAbove l.at (map bytes_of_block l.held);
   held_same : (x : ℕ) → l.at ≤ x → is_byte_in_block l.held x ≡ is_byte_in_block l.saved.blocks.items x;
   none_bad : (x : ℕ) → x < l.at
       → byte_state_at l.limit l.saved.map.items l.saved.owners.items l.saved.blocks.items x ≢ states.NotFree;

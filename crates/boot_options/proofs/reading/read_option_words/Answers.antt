@@ -23,19 +23,19 @@ loop-word-init c = record {
 pub returns-in-Err : goal.returns-in-Err
 returns-in-Err c =
     let word = c.unquote-word.result.now in
-    let behind = c.in-Some.behind.now in
-    let words = option_words-read c.loop-word.rest.now c.in-Some.word.now behind word c.as_slice.result.now
+    let after = c.in-Some.after.now in
+    let words = option_words-read c.loop-word.rest.now c.in-Some.word.now after word c.as_slice.result.now
     c.in-Some.ensures.some c.unquote-word.ensures c.as_slice.ensures c.if-eq.ensures in
     let so_far = c.loop-word.invariant.reading in
     sym so_far.2
-    ∙ rw words (after_meanings-fault c.loop-word.number so_far.0 c.in-Err.fault word (option_words behind)
+    ∙ rw words (after_meanings-fault c.loop-word.number so_far.0 c.in-Err.fault word (option_words after)
     (c.in-Err.ensures so_far.0 so_far.1))
 
 pub loop-word-preserved : goal.loop-word-preserved
 loop-word-preserved c =
     let word = c.unquote-word.result.now in
-    let behind = c.in-Some.behind.now in
-    let words = option_words-read c.loop-word.rest.now c.in-Some.word.now behind word c.as_slice.result.now
+    let after = c.in-Some.after.now in
+    let words = option_words-read c.loop-word.rest.now c.in-Some.word.now after word c.as_slice.result.now
     c.in-Some.ensures.some c.unquote-word.ensures c.as_slice.ensures c.if-eq.ensures in
     let so_far = c.loop-word.invariant.reading in
     let next = state_at c.read_word.new.reading
@@ -45,7 +45,7 @@ loop-word-preserved c =
       reading = (
         next.0,
         next.1,
-        sym (after_meanings-step c.loop-word.number so_far.0 next.0 word (option_words behind) next.2)
+        sym (after_meanings-step c.loop-word.number so_far.0 next.0 word (option_words after) next.2)
             ∙ (rw words at so_far.2),
       );
       few = omega (arith, c.in-Some.ensures.shorter);

@@ -131,7 +131,7 @@ returns-clause-run c =
     let at = goal.at.returns-clause-run c in
     let row = row6 at.In_ok-roots (row5 at.In_ok-run_script_lines-2 (row4 at.In_ok-crash (row3 at.In_ok-nodes
     (row2 at.In_ok-run_script_lines (row1 at.In_ok-make_memory))))) in
-    let lines = c.split_at_sections.ensures.behind ∙ ap lines_after_sections c.deref-2.ensures.value in
+    let lines = c.split_at_sections.ensures.after ∙ ap lines_after_sections c.deref-2.ensures.value in
     let last = row-lines row (lines_after_sections inputs.lines) _ _ _ c.in_ok-run_script_lines-3.ensures.kernel
     ((rw lines at c.in_ok-run_script_lines-3.ensures.ok) row.fills row.holds) in
     record { ids = c.run_script_lines-3.new.live; fills = last.fills; come = last.come; kernel = last.kernel; holds = last.holds }

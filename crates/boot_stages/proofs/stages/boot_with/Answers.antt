@@ -114,9 +114,9 @@ returns-clause-bytes c = λ final ends x. (
     let inputs : InputsView = inputs_view c.args.inputs in
     let last : Memblock = c.run_stages.new.memblock in
     let known = made (goal.at.returns-clause-bytes c).In_ok-later in
-    let behind : BootSoFar = made_after_stages inputs c.in_ok-map.map.items last c.in_ok-later.later known.run.ids known.run.fills in
-    let both : Ok behind ≡ Ok final = sym known.boots ∙ ends in
-    let is : behind ≡ final = cc in
+    let after : BootSoFar = made_after_stages inputs c.in_ok-map.map.items last c.in_ok-later.later known.run.ids known.run.fills in
+    let both : Ok after ≡ Ok final = sym known.boots ∙ ends in
+    let is : after ≡ final = cc in
     ap (λ (s : List ExtentView). byte_of s x) c.in_ok-hand_over_memory.ensures.store ∙ known.run.holds.each x
     ∙ ap (λ (k : RangeView). byte_from_history k last.journal.items known.run.fills x) known.run.kernel
     ∙ ap (λ (n : BootSoFar). byte_from_history inputs.kernel n.items n.fills x) is)

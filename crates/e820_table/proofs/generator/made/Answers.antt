@@ -25,12 +25,12 @@ loop-index-preserved c =
       others_space = l.invariant.extension_space;
     })
     c.in_ok-put_entry.ensures.room c.in_ok-put_entry.ensures.full (omega arith) in
-    let behind : List Entry = generated_entries_from (c.args.n - (l.index + 1)) (l.index + 1) (l.base + e.size) x in
-    let step : generated_entries_from (c.args.n - l.index) l.index l.base l.number ≡ e ∷ behind =
+    let after : List Entry = generated_entries_from (c.args.n - (l.index + 1)) (l.index + 1) (l.base + e.size) x in
+    let step : generated_entries_from (c.args.n - l.index) l.index l.base l.number ≡ e ∷ after =
     one_more (c.args.n - l.index) (c.args.n - (l.index + 1)) l.index l.base l.number x e (omega arith)
     c.next_generator_state-number.ensures c.generated_entry-entry.ensures in
     record {
-      entries = ap (λ (es : List Entry). es ++ behind) split.whole ∙ append_assoc front (e ∷ []) behind
+      entries = ap (λ (es : List Entry). es ++ after) split.whole ∙ append_assoc front (e ∷ []) after
           ∙ ap (λ (es : List Entry). front ++ es) (sym step) ∙ l.invariant.entries;
       fits = split.fits;
       so_many = omega (arith, c.in_ok-put_entry.ensures.one, l.invariant.so_many);

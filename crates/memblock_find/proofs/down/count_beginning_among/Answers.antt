@@ -33,7 +33,7 @@ loop-low-preserved-then-get-at-2 c =
       order = omega arith;
       within = within;
       before = begun_so_far rs c.args.at middle c.requires.runs (omega arith) (omega arith);
-      behind = c.loop-low.invariant.behind;
+      after = c.loop-low.invariant.after;
     }
 
 pub loop-low-preserved : goal.loop-low-preserved
@@ -44,10 +44,10 @@ loop-low-preserved c =
     ap (λ (g : Region). g.base) (c.get-in-loop-low.ensures.region _) in
     let within = c.loop-low.invariant.within in
     let test = c.loop-low-test.true in
-    let behind = c.if-get-at-2.false in
+    let after = c.if-get-at-2.false in
     record {
       order = omega arith;
       within = omega arith;
       before = c.loop-low.invariant.before;
-      behind = not_begun_from rs c.args.at middle c.requires.runs (omega arith);
+      after = not_begun_from rs c.args.at middle c.requires.runs (omega arith);
     }

@@ -8,7 +8,7 @@ invariant-loop-low l = record {
   order : l.low ≤ l.high;
   within : l.high < length l.records;
   before : (i : ℕ) → i < l.low → (nth_record l.records i).base < l.at;
-  behind : (i : ℕ) → l.high ≤ i → i < length l.records → l.at ≤ (nth_record l.records i).base;
+  after : (i : ℕ) → l.high ≤ i → i < length l.records → l.at ≤ (nth_record l.records i).base;
 }
 
 abbrev pub decreases-loop-low : goal.decreases-loop-low

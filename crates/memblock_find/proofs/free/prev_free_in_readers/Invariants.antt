@@ -10,7 +10,7 @@ abbrev pub invariant-loop-cursor : goal.invariant-loop-cursor
 invariant-loop-cursor l = record {
   walk : IsWalkDownAt l.lists.memory l.lists.reserved l.cursor;
   order : l.cursor.at ≤ l.below;
-  behind : HasValueBetween (unclaimed_memory (value_at l.lists.memory) (value_at l.lists.reserved)) l.cursor.at l.below None;
+  after : HasValueBetween (unclaimed_memory (value_at l.lists.memory) (value_at l.lists.reserved)) l.cursor.at l.below None;
 }
 
 abbrev pub decreases-loop-cursor : goal.decreases-loop-cursor

@@ -5,7 +5,7 @@ use Rattle.memblock_find.specs.Places.{NoPlaceEndsBetween}
 use Rattle.memblock_find.specs.Walk.{nth_record}
 use Rattle.memblock_find.proofs.DownLaws.{stretch_stays, stretch_down}
 use Rattle.memblock_find.proofs.PlaceLaws.{none_above, best_answer, no_answer, none_found}
-use Rattle.memblock_find.proofs.SlotLaws.{nothing_behind}
+use Rattle.memblock_find.proofs.SlotLaws.{nothing_after}
 use Rattle.memblock_find.proofs.search.find_any_downward.Goals as goal
 
 pub loop-cursor-init : goal.loop-cursor-init
@@ -13,7 +13,7 @@ loop-cursor-init c =
     let t = c.args.lists.now in
     let high : c.start_walk_down-cursor.result.at ≡ min c.args.query.now.hi c.end_of_records-end.result =
     c.start_walk_down-cursor.ensures.at ∙ c.min-high.ensures in
-    let behind = nothing_behind t.memory c.end_of_records-end.result c.count.ensures.records.runs
+    let after = nothing_after t.memory c.end_of_records-end.result c.count.ensures.records.runs
     (λ some. c.end_of_records-end.ensures.end (omega (arith, some, c.count.ensures.count))
     ∙ ap (λ n. run_end (nth_record t.memory (n - 1))) c.count.ensures.count) in
     record {
@@ -21,7 +21,7 @@ loop-cursor-init c =
       window = omega (arith, high);
       past = subst (λ at. NoPlaceEndsBetween false (value_at t.memory) (value_at t.reserved) c.args.query.now at c.args.query.now.hi)
           (sym high)
-          (none_above false (value_at t.memory) (value_at t.reserved) c.args.query.now c.end_of_records-end.result c.requires.some behind);
+          (none_above false (value_at t.memory) (value_at t.reserved) c.args.query.now c.end_of_records-end.result c.requires.some after);
     }
 
 pub returns-then-is_some : goal.returns-then-is_some

@@ -28,7 +28,7 @@ loop-low-preserved-then-region-at c =
       order = omega arith;
       within = within;
       before = ended_so_far rs c.args.at middle i.runs (omega arith) (omega (arith, read.0, read.1));
-      behind = i.behind;
+      after = i.after;
     }
 
 pub loop-low-preserved : goal.loop-low-preserved
@@ -39,11 +39,11 @@ loop-low-preserved c =
     let i = c.loop-low.invariant in
     let within = i.within in
     let test = c.loop-low-test.true in
-    let behind = c.if-region-at.false in
+    let after = c.if-region-at.false in
     record {
       runs = i.runs;
       order = omega arith;
       within = omega arith;
       before = i.before;
-      behind = not_ended_from rs c.args.at middle i.runs (omega (arith, read.0, read.1));
+      after = not_ended_from rs c.args.at middle i.runs (omega (arith, read.0, read.1));
     }

@@ -10,7 +10,7 @@ invariant-loop-low l = record {
   order : l.low ≤ l.high;
   within : l.high ≤ length l.records;
   before : (i : ℕ) → i < l.low → run_end (nth_record l.records i) ≤ l.at;
-  behind : (i : ℕ) → l.high ≤ i → i < length l.records → l.at < run_end (nth_record l.records i);
+  after : (i : ℕ) → l.high ≤ i → i < length l.records → l.at < run_end (nth_record l.records i);
 }
 
 abbrev pub decreases-loop-low : goal.decreases-loop-low

@@ -5,7 +5,7 @@ use Rattle.growth_model.specs.Growth.{is_full, memory_growth}
 use Rattle.growth_model.proofs.EndLaws.{EndsAsChange-second}
 use Rattle.growth_model.proofs.SoundLaws.{memory_once-stands}
 use Rattle.memblock_grow.specs.NewRecords.{new_records_by_items}
-use Rattle.memblock_grow.proofs.MoreLaws.{memory-enough, room-behind}
+use Rattle.memblock_grow.proofs.MoreLaws.{memory-enough, room-after}
 use Rattle.memblock_grow.proofs.PreparedLaws.{by-then}
 use Rattle.memblock_grow.proofs.WholeLaws.{whole-on, keeps-then, bytes-then}
 use Rattle.memblock_grow.proofs.memory.make_memory_room.Goals as goal
@@ -39,6 +39,6 @@ returns-clause-prepared c =
 pub returns-clause-room : goal.returns-clause-room
 returns-clause-room c =
     let kept = c.requires.kept.1.kept in
-    room-behind which.Memory c.args.more.now memory_growth c.args.journal.now.items c.grow_memory_if_full-2.result
+    room-after which.Memory c.args.more.now memory_growth c.args.journal.now.items c.grow_memory_if_full-2.result
     (memory-enough kept (omega arith) c.args.more.now c.grow_memory_if_full.ensures.within) (returns-clause-ends c)
     (returns-clause-kept c c.requires.kept.0 kept)

@@ -5,7 +5,7 @@ use Rattle.growth_model.specs.Growth.{is_full, reserved_growth}
 use Rattle.growth_model.proofs.EndLaws.{EndsAsChange-second}
 use Rattle.growth_model.proofs.SoundLaws.{once-stands}
 use Rattle.memblock_grow.specs.NewRecords.{new_records_by_items}
-use Rattle.memblock_grow.proofs.MoreLaws.{full-begun, reserved-enough, room-behind}
+use Rattle.memblock_grow.proofs.MoreLaws.{full-begun, reserved-enough, room-after}
 use Rattle.memblock_grow.proofs.PreparedLaws.{prepares-then}
 use Rattle.memblock_grow.proofs.WholeLaws.{whole-on, keeps-then, bytes-then}
 use Rattle.memblock_grow.proofs.reserved.make_reserved_room.Goals as goal
@@ -40,6 +40,6 @@ returns-clause-prepared c = prepares-then c.grow_reserved_if_full.ensures.prepar
 pub returns-clause-room : goal.returns-clause-room
 returns-clause-room c =
     let kept = c.requires.1.kept in
-    room-behind which.Reserved c.args.more.now (reserved_growth c.args.avoid) c.args.journal.now.items c.grow_reserved_if_full-2.result
+    room-after which.Reserved c.args.more.now (reserved_growth c.args.avoid) c.args.journal.now.items c.grow_reserved_if_full-2.result
     (reserved-enough kept (omega arith) c.args.more.now c.args.avoid c.grow_reserved_if_full.ensures.within) (returns-clause-ends c)
     (returns-clause-kept c c.requires.0 kept)

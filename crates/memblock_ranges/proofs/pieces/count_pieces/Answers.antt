@@ -25,7 +25,7 @@ loop-from-init g c =
           ∙ ap is_none (c.value_and_end-first.ensures.value f rest);
       stays = c.value_and_end-first.ensures.stays f rest;
       ends = c.value_and_end-first.ensures.ends rest.ends;
-      behind = c.value_and_end-first.ensures.behind rest.ends;
+      after = c.value_and_end-first.ensures.after rest.ends;
       few = omega arith;
       count = sym (ap (λ n. total (run_ends_at same_label (gaps_in_range r plain_label f)) 0 n) base ∙ no_pieces r f);
     }
@@ -42,7 +42,7 @@ loop-from-preserved g c =
     let small : end_of r < 2 ^ 64 = c.end-until.ensures.small in
     let test : from < c.end-until.result = c.loop-from-test.true in
     let less : to ≡ min next c.end-until.result = c.min-to.ensures in
-    let forward : from < next = i.behind (omega (arith, test, until, small)) in
+    let forward : from < next = i.after (omega (arith, test, until, small)) in
     let order : from < to = omega (arith, less, forward, test) in
     let by_next : to ≤ next = omega (arith, less) in
     let by_end : to ≤ r.base + r.size = omega (arith, less, until) in
@@ -61,7 +61,7 @@ loop-from-preserved g c =
           ∙ ap is_none value;
       stays = c.value_and_end-there.ensures.stays f rest;
       ends = c.value_and_end-there.ensures.ends rest.ends;
-      behind = c.value_and_end-there.ensures.behind rest.ends;
+      after = c.value_and_end-there.ensures.after rest.ends;
       few = omega (arith, i.few, order, few, ends);
       count = more_pieces r f from to next c.loop-from.count c.ends_piece-count.result c.loop-from.bare c.is_none.result i.first order
           by_end by_next

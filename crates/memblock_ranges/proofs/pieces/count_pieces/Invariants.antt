@@ -19,7 +19,7 @@ invariant-loop-from g l =
       here : l.bare ≡ is_none (f l.from);
       stays : HasValueBetween f l.from l.next (f l.from);
       ends : FirstEndsAtOrPast l.next (drop l.read (g.T.Rows.list l.table));
-      behind : l.from < 2 ^ 64 - 1 → l.from < l.next;
+      after : l.from < 2 ^ 64 - 1 → l.from < l.next;
       few : l.count ≤ l.from;
       count : l.count ≡ total (run_ends_at same_label (gaps_in_range l.range plain_label f)) 0 l.from;
     }

@@ -1,4 +1,4 @@
-use Rattle.numa_nodes.proofs.MemoryLaws.{behind-answer}
+use Rattle.numa_nodes.proofs.MemoryLaws.{after-answer}
 use Rattle.numa_nodes.proofs.NodedLaws.{answer-noded}
 use Rattle.numa_nodes.proofs.laws.all_memory_gets_nodes.Goals as goal
 
@@ -7,4 +7,4 @@ returns-clause-noded c = λ reach table off items noded answered near frames wit
     answer-noded reach table off items noded answered near frames within low
 
 pub returns-clause-nodes : goal.returns-clause-nodes
-returns-clause-nodes c = λ table off items noded answered. (behind-answer table off items noded answered).nodes
+returns-clause-nodes c = λ table off items noded answered. (after-answer table off items noded answered).nodes

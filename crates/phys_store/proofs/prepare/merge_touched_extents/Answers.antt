@@ -11,7 +11,7 @@ use Rattle.phys_store.proofs.prepare.merge_touched_extents.Goals.{After-index_mu
 -- the extent that is kept
 kept : (c : After-index_mut) → IsKept c.args.extents.now.items c.index_mut.result.now c.largest-kept.result c.args.low c.args.high
 kept c =
-    kept_piece c.args.extents.now.items c.index_mut.result.now c.args.first c.args.behind c.largest-kept.result c.args.low c.args.high
+    kept_piece c.args.extents.now.items c.index_mut.result.now c.args.first c.args.after c.largest-kept.result c.args.low c.args.high
     c.requires.apart c.requires.joins c.largest-kept.ensures.least c.largest-kept.ensures.below c.index_mut.ensures.value
 
 -- the empty extent that takes its place in the list meanwhile
@@ -54,13 +54,13 @@ out c k =
 -- the other extents lie in the kept one
 lie_in : (c : After-replace-whole) → IsOut c → (ds : List Extent) →
     ds ≡ set (set c.args.extents.now.items c.largest-kept.result c.widen.new.extent) c.largest-kept.result c.replace-whole.new.dest →
-    let others = take (c.args.behind - c.args.first) (drop c.args.first ds) in (i : ℕ) → i < length others →
+    let others = take (c.args.after - c.args.first) (drop c.args.first ds) in (i : ℕ) → i < length others →
     (c.replace-whole.result.base ≤ (nth_extent (map extent_view others) i).base)
     × (end_of_extent (nth_extent (map extent_view others) i) ≤ end_of_extent (extent_view c.replace-whole.result))
 lie_in c o ds same i less =
     let es = c.args.extents.now.items in
     let k : ℕ = c.largest-kept.result in
-    let between = others_in es ds (left c) c.args.first c.args.behind k c.args.low c.args.high c.requires.joins o.order
+    let between = others_in es ds (left c) c.args.first c.args.after k c.args.low c.args.high c.requires.joins o.order
     c.largest-kept.ensures.below (same ∙ o.after ∙ set-set es k c.widen.new.extent (left c)) refl o.empty i less in
     (omega (arith, o.base, between.0), omega (arith, o.end, between.1))
 
@@ -107,13 +107,13 @@ returns-clause-ok c =
     let p = c.index_mut.result.now in
     let w = c.widen.new.extent in
     let whole = c.replace-whole.result in
-    let others = map extent_view (take (c.args.behind - c.args.first) (drop c.args.first c.deref-2.result.now)) in
+    let others = map extent_view (take (c.args.after - c.args.first) (drop c.args.first c.deref-2.result.now)) in
     let made : extent_view c.copy_into_extent.new.extent ≡ extent_with_bytes_of (others ++ extent_view w ∷ []) c.args.low c.args.high =
     c.copy_into_extent.ensures
     ∙ ap (λ (d : Extent). extent_with_bytes_of (others ++ extent_view d ∷ []) whole.base (end_of_extent (extent_view whole))) o.is
     ∙ ap (λ m. extent_with_bytes_of (others ++ extent_view w ∷ []) m (end_of_extent (extent_view whole))) o.base
     ∙ ap (λ m. extent_with_bytes_of (others ++ extent_view w ∷ []) c.args.low m) o.end in
     united es (set (set es k w) k c.replace-whole.new.dest) c.deref-2.result.now c.replace.new.extents.items p w
-    (left at.After-replace-whole) c.copy_into_extent.new.extent c.args.first c.args.behind k
+    (left at.After-replace-whole) c.copy_into_extent.new.extent c.args.first c.args.after k
     c.args.low c.args.high c.requires.apart c.requires.joins o.order c.largest-kept.ensures.least c.largest-kept.ensures.below
     c.index_mut.ensures.value o.after c.deref-2.ensures.value c.in_ok-widen.ensures.ok o.empty made c.replace.ensures

@@ -18,13 +18,13 @@ done c =
     subst (λ (ds : List Extent). ArePrepared (map extent_view ds) c.args.range.base c.args.range.size → ⊥) c.deref.ensures.value
     (λ (ready : ArePrepared (map extent_view c.deref.result.now) c.args.range.base c.args.range.size). false≢true
     (c.if-are_prepared.ensures.1 ready)) in
-    let joins : AreTouchedExtents ps h.first h.behind h.low h.high = subst
-    (λ (ds : List Extent). AreTouchedExtents (map extent_view ds) h.first h.behind h.low h.high) c.deref-2.ensures.value
+    let joins : AreTouchedExtents ps h.first h.after h.low h.high = subst
+    (λ (ds : List Extent). AreTouchedExtents (map extent_view ds) h.first h.after h.low h.high) c.deref-2.ensures.value
     c.touched_extents-reach.ensures.joins in
     let ready = subst (λ (ds : List Extent). (x : ℕ) → h.low ≤ x → x < h.high →
     IsTrue (covers c.args.range x || is_prepared_at (map extent_view ds) x)) c.deref-2.ensures.value
     c.touched_extents-reach.ensures.ready in
-    prepared ps (map extent_view c.merge_or_insert.new.extents.items) c.args.range h.first h.behind h.low h.high c.requires joins
+    prepared ps (map extent_view c.merge_or_insert.new.extents.items) c.args.range h.first h.after h.low h.high c.requires joins
     c.touched_extents-reach.ensures.low c.touched_extents-reach.ensures.high c.touched_extents-reach.ensures.small not_ready ready
     c.in_ok-merge_or_insert.ensures.ok
 

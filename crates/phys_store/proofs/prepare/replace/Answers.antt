@@ -1,11 +1,11 @@
 use Rattle.std.proofs.Common.{◌≡◌, ℕ, suc, ◌+◌, ◌∙◌, ◌++◌, ◌∷◌, take, drop, ap, arith}
 use Rattle.std.proofs.lemmas.List.{set_split}
-use Rattle.phys_store.proofs.Joining.{removed_behind}
+use Rattle.phys_store.proofs.Joining.{removed_after}
 use Rattle.phys_store.proofs.prepare.replace.Goals as goal
 
 pub loop-gone-preserved : goal.loop-gone-preserved
 loop-gone-preserved c =
-    removed_behind c.args.extents.now.items c.remove.new.self.items c.loop-gone.extents.items c.args.extent c.args.first c.loop-gone._gone
+    removed_after c.args.extents.now.items c.remove.new.self.items c.loop-gone.extents.items c.args.extent c.args.first c.loop-gone._gone
     (omega (arith, c.requires.most, c.requires.some)) c.loop-gone.invariant c.remove.ensures.items
 
 pub loop-gone-init : goal.loop-gone-init

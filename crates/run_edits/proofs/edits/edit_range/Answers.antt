@@ -7,7 +7,7 @@ use Rattle.address_runs.specs.Sweep.{StartAtOrPast, FirstEndsAtOrPast, HasValueB
 use Rattle.address_runs.proofs.SweepLaws.{ends_sooner}
 use Rattle.run_edits.specs.Records.{run_or_none}
 use Rattle.run_edits.proofs.JoinLaws.{swept_join, swept_stretch}
-use Rattle.run_edits.proofs.AmendLaws.{amended_below, amended_inside, amended_behind, amended_stays, amended_stays_behind, room_here}
+use Rattle.run_edits.proofs.AmendLaws.{amended_below, amended_inside, amended_after, amended_stays, amended_stays_after, room_here}
 use Rattle.run_edits.proofs.edits.edit_range.Goals as goal
 
 pub loop-from-init : goal.loop-from-init
@@ -37,7 +37,7 @@ advance-sweep-requires-clause-room g c = λ free lt some other.
     let small : end_of r < 2 ^ 64 = c.end-until.ensures.small in
     let first : r.base ≤ from = i.first in
     let test : from < c.end-until.result = c.loop-from-test.true in
-    let next : from < c.value_and_end-here.result.1 = c.value_and_end-here.ensures.behind i.rest.ends (omega arith) in
+    let next : from < c.value_and_end-here.result.1 = c.value_and_end-here.ensures.after i.rest.ends (omega arith) in
     let order : from ≤ c.min-to.result = omega arith in
     let here : h from ≡ c.apply.result = amended_inside change r f from first (omega arith)
     ∙ ap change (sym (c.value_and_end-here.ensures.value f i.rest)) ∙ sym c.apply.ensures in
@@ -64,7 +64,7 @@ loop-from-preserved g c =
     let small : end_of r < 2 ^ 64 = c.end-until.ensures.small in
     let first : r.base ≤ from = i.first in
     let test : from < c.end-until.result = c.loop-from-test.true in
-    let next : from < c.value_and_end-here.result.1 = c.value_and_end-here.ensures.behind i.rest.ends (omega arith) in
+    let next : from < c.value_and_end-here.result.1 = c.value_and_end-here.ensures.after i.rest.ends (omega arith) in
     let order : from ≤ to = omega arith in
     let value : c.apply.result ≡ change (f from) = c.apply.ensures ∙ ap change (c.value_and_end-here.ensures.value f i.rest) in
     let here : h from ≡ c.apply.result = amended_inside change r f from first (omega arith) ∙ sym value in
@@ -103,7 +103,7 @@ advance-sweep-requires-2-clause-room g c = λ free lt some other.
     subst (λ (n : ℕ). IsBuiltTo h n (take c.loop-from.sweep.write (g.T.Rows.list c.loop-from.table)) c.loop-from.sweep.start
     c.loop-from.sweep.value) at i.built in
     let order : until ≤ c.value_and_end-here-2.result.1 = c.value_and_end-here-2.ensures.forward left.ends (omega arith) in
-    let here : h until ≡ c.value_and_end-here-2.result.0 = amended_behind change r f until (omega arith)
+    let here : h until ≡ c.value_and_end-here-2.result.0 = amended_after change r f until (omega arith)
     ∙ sym (c.value_and_end-here-2.ensures.value f left) in
     let rest : IsRestFrom f c.value_and_end-here-2.result.1 (drop c.skip_ended-2.result (g.T.Rows.list c.loop-from.table)) =
     c.skip_ended-2.ensures.rest f until left order (c.value_and_end-here-2.ensures.ends left.ends) in
@@ -135,9 +135,9 @@ write_run-write-requires-clause-room g c = λ free lt some.
     c.loop-from.sweep.value) at i.built in
     let order : until ≤ next = c.value_and_end-here-2.ensures.forward left.ends (omega arith) in
     let value : c.value_and_end-here-2.result.0 ≡ f until = c.value_and_end-here-2.ensures.value f left in
-    let here : h until ≡ c.value_and_end-here-2.result.0 = amended_behind change r f until (omega arith) ∙ sym value in
+    let here : h until ≡ c.value_and_end-here-2.result.0 = amended_after change r f until (omega arith) ∙ sym value in
     let stays : HasValueBetween h until next c.value_and_end-here-2.result.0 =
-    amended_stays_behind change r f until next c.value_and_end-here-2.result.0
+    amended_stays_after change r f until next c.value_and_end-here-2.result.0
     (omega arith) (c.value_and_end-here-2.ensures.stays f left) value in
     let built : IsBuiltTo h next (take a.result.write (g.T.Rows.list a.new.table)) a.result.start a.result.value = a.ensures.built h next
     before here order stays in
@@ -149,7 +149,7 @@ write_run-write-requires-clause-room g c = λ free lt some.
     a.result.read
     (g.T.Slots.room c.args.table.now) c.requires.room.2 c.requires.within (omega arith) (grind (arith, common_steps)) built
     (λ same. last
-    ∙ c.value_and_end-here-2.ensures.another f left (sym (amended_behind change r f next (omega arith)) ∙ same ∙ last)) rest free
+    ∙ c.value_and_end-here-2.ensures.another f left (sym (amended_after change r f next (omega arith)) ∙ same ∙ last)) rest free
     a.ensures.within lt some in
     let keeps = g.met.T.Slots.keeps_on c.args.table.now c.loop-from.table a.new.table i.keeps a.ensures.keeps in
     g.met.T.Slots.keeps_room c.args.table.now a.new.table keeps (suc (length (g.T.Rows.list a.new.table))) room
@@ -175,9 +175,9 @@ returns-clause-list g c =
     c.loop-from.sweep.value) at i.built in
     let order : until ≤ next = c.value_and_end-here-2.ensures.forward left.ends (omega arith) in
     let value : c.value_and_end-here-2.result.0 ≡ f until = c.value_and_end-here-2.ensures.value f left in
-    let here : h until ≡ c.value_and_end-here-2.result.0 = amended_behind change r f until (omega arith) ∙ sym value in
+    let here : h until ≡ c.value_and_end-here-2.result.0 = amended_after change r f until (omega arith) ∙ sym value in
     let stays : HasValueBetween h until next c.value_and_end-here-2.result.0 =
-    amended_stays_behind change r f until next c.value_and_end-here-2.result.0
+    amended_stays_after change r f until next c.value_and_end-here-2.result.0
     (omega arith) (c.value_and_end-here-2.ensures.stays f left) value in
     let built : IsBuiltTo h next (take a.result.write (g.T.Rows.list a.new.table)) a.result.start a.result.value = a.ensures.built h next
     before here order stays in
@@ -192,8 +192,8 @@ returns-clause-list g c =
     c.value_and_end-here-2.ensures.uncut in
     let swept : IsSweptTo h next (take a.result.write (g.T.Rows.list a.new.table) ++ run_or_none a.result.start next a.result.value) =
     swept_stretch h a.result.start next a.result.value (take a.result.write (g.T.Rows.list a.new.table)) built.swept built.begun built.stays
-    (λ same. last ∙ c.value_and_end-here-2.ensures.another f left (sym (amended_behind change r f next (omega arith)) ∙ same ∙ last)) in
+    (λ same. last ∙ c.value_and_end-here-2.ensures.another f left (sym (amended_after change r f next (omega arith)) ∙ same ∙ last)) in
     let close : c.write_run-write.result.0 + (c.write_run-write.result.1 - c.write_run-write.result.0)
     ≡ c.write_run-write.result.1 = omega (arith, c.write_run-write.ensures.order) in
     rw (c.close.ensures.list, close, c.write_run-write.ensures.written, c.write_run-write.ensures.rest, a.ensures.rest)
-    (swept_join f h next _ _ swept passed starts (λ x le. amended_behind change r f x (omega arith)))
+    (swept_join f h next _ _ swept passed starts (λ x le. amended_after change r f x (omega arith)))

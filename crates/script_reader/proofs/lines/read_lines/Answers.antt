@@ -5,7 +5,7 @@ use Rattle.std.specs.Option.{option_map}
 use Rattle.text_words.specs.Parts.{parts_of_rest}
 use Rattle.text_words.specs.declared.separators.Separators.TheVariants as separators
 use Rattle.script_reader.specs.Lines.{script_line_at}
-use Rattle.script_reader.proofs.ScriptLaws.{line_read, left_behind, kept_lines_are_read, kept_lines_hold, limits_on, out_of_memory_has_command}
+use Rattle.script_reader.proofs.ScriptLaws.{line_read, left_after, kept_lines_are_read, kept_lines_hold, limits_on, out_of_memory_has_command}
 use Rattle.script_reader.proofs.lines.read_lines.Goals as goal
 
 pub loop-rest-preserved : goal.loop-rest-preserved
@@ -14,7 +14,7 @@ loop-rest-preserved g c =
     let l = c.loop-rest in
     let front = l.invariant.lines.0 in
     let act = c.in-Ok.act in
-    let shorter = left_behind c.next_part.result.1 _ c.next_part.ensures.shorter in
+    let shorter = left_after c.next_part.result.1 _ c.next_part.ensures.shorter in
     let others = parts_of_rest (separators.Byte 10) (option_map (λ rest. rest.now) c.next_part.result.1) in
     let kept = rw c.script_line_at.ensures at c.append_line-lines.ensures.line in
     let wanting = rw c.script_line_at.ensures at c.append_line-lines.ensures.memory in

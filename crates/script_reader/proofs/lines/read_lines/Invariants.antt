@@ -6,7 +6,7 @@ use Rattle.text_words.specs.Parts.{parts_of_rest}
 use Rattle.text_words.specs.declared.separators.Separators.TheVariants as separators
 use Rattle.text_words.proofs.WordsLaws.{left}
 use Rattle.script_reader.specs.Lines.{script_lines_from, lines_of}
-use Rattle.script_reader.proofs.ScriptLaws.{behind}
+use Rattle.script_reader.proofs.ScriptLaws.{after}
 use Rattle.script_reader.proofs.lines.read_lines.Given as goal
 
 abbrev pub invariant-loop-rest : goal.invariant-loop-rest
@@ -14,7 +14,7 @@ invariant-loop-rest g l = let kind = g.L.ScriptLine.kind in record {
   few : l.number + left l.rest ≤ length l.fn.bytes + 2;
   limits : IfOk l.lines (λ kept. All g.L.ScriptLine.IsWithinLimits kept.items);
   lines : (front : List g.row.L.Denot)
-      × (behind front (script_lines_from kind l.seen l.number (parts_of_rest (separators.Byte 10) (option_map (λ text. text.now) l.rest)))
+      × (after front (script_lines_from kind l.seen l.number (parts_of_rest (separators.Byte 10) (option_map (λ text. text.now) l.rest)))
       ≡ lines_of kind l.fn.bytes)
       × IfOk l.lines (λ kept. kept.items ≡ front) × IfErr l.lines (λ _. 0 < length front);
 }

@@ -9,7 +9,7 @@ pub returns-clause-first : goal.returns-clause-first
 returns-clause-first c = λ k s id order node z none is.
     ap (take_from_nearest s id order (zone_list_of k node)) none
     ∙ ap (λ (zs : List ListZone). take_from_zone s id order (first_zone s order zs)) is.is
-    ∙ ap (take_from_zone s id order) (first_is s order is.before z is.behind is.has is.first)
+    ∙ ap (take_from_zone s id order) (first_is s order is.before z is.after is.has is.first)
 
 pub returns-clause-none : goal.returns-clause-none
 returns-clause-none c = λ k s id order node none all.

@@ -62,7 +62,7 @@ returns-in_err-outcome-clause-memory c =
     on_err c.from_residual-in_err-outcome.result _ (inr (record {
       before = take i lines;
       line = line;
-      behind = drop (i + 1) lines;
+      after = drop (i + 1) lines;
       is = sym (take-append-drop i lines) ∙ ap (λ (ls : List PageLine). take i lines ++ ls) more;
       takes = subst
           (λ (u : PageState). NeedsMemory (page_step_by_distance c.args.lists.now u line.act).0) so_far c.in_err-outcome.ensures.memory;

@@ -32,9 +32,9 @@ loop-at-preserved c =
     let whole : is_whole_entry c.loop-at.at c.args.bytes.now ≡ true = grind (arith, common_steps) in
     let near : is_block_too_far (srat_entry_at c.loop-at.at c.args.bytes.now) ≡ false = cc in
     let bounds = whole_bounds c.loop-at.at c.args.bytes.now whole in
-    let from = c.loop-at.invariant.behind_header in
+    let from = c.loop-at.invariant.after_header in
     record {
-      behind_header = omega arith;
+      after_header = omega arith;
       sound_before = rw c.entry_length_at-at.ensures
           (sym (later_fault c.loop-at.at c.args.bytes.now c.loop-at-test.true whole near) ∙ c.loop-at.invariant.sound_before);
     }

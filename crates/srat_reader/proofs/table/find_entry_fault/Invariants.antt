@@ -5,7 +5,7 @@ use Rattle.srat_reader.proofs.table.find_entry_fault.Given as goal
 
 abbrev pub invariant-loop-at : goal.invariant-loop-at
 invariant-loop-at l = record {
-  behind_header : 48 ≤ l.at;
+  after_header : 48 ≤ l.at;
   sound_before : first_srat_fault l.bytes (rest_from l.at l.bytes) ≡ first_srat_fault l.bytes (entry_offsets l.bytes);
 }
 

@@ -32,9 +32,9 @@ loop-at-preserved c =
     let bytes = c.args.bytes.now in
     let whole = whole_here l.at bytes c.loop-at-test.true l.invariant.sound in
     let bounds = whole_bounds l.at bytes whole in
-    let from = l.invariant.behind_header in
+    let from = l.invariant.after_header in
     record {
-      behind_header = omega arith;
+      after_header = omega arith;
       sound = rw c.entry_length_at-at.ensures (no_fault_after_entry l.at bytes c.loop-at-test.true l.invariant.sound);
       processors = rw (c.entry_length_at-at.ensures, c.in_ok-append_srat_entry.ensures.processors, c.srat_entry_at.ensures)
           (sym (values_from_entry (processor_domain_at bytes) l.at bytes l.srat.cpus.items c.loop-at-test.true whole)

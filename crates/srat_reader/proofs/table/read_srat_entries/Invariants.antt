@@ -6,7 +6,7 @@ use Rattle.srat_reader.proofs.table.read_srat_entries.Given as goal
 
 abbrev pub invariant-loop-at : goal.invariant-loop-at
 invariant-loop-at l = record {
-  behind_header : 48 ≤ l.at;
+  after_header : 48 ≤ l.at;
   sound : first_srat_fault l.bytes (rest_from l.at l.bytes) ≡ None;
   processors : l.srat.cpus.items ++ filter_map (processor_domain_at l.bytes) (rest_from l.at l.bytes) ≡ processors_of l.bytes;
   blocks : l.srat.blocks.items ++ filter_map (srat_block_at l.bytes) (rest_from l.at l.bytes) ≡ srat_blocks_of l.bytes;

@@ -1,6 +1,6 @@
 use Rattle.std.proofs.Common.{arith}
 use Rattle.zone_spans.specs.Slots.{frames_with_node_run}
-use Rattle.zone_spans.proofs.SlotLaws.{told_more, bounded_more, run_parts, nothing_behind}
+use Rattle.zone_spans.proofs.SlotLaws.{told_more, bounded_more, run_parts, nothing_after}
 use Rattle.zone_spans.proofs.slots.add_frames.Goals as goal
 
 pub loop-at-preserved : goal.loop-at-preserved
@@ -20,6 +20,6 @@ loop-at-preserved c =
       told = λ f nothing told.
           rw (run_parts c.args.first at until n f (omega arith) (omega arith))
           at (told_more (frames_with_node_run c.args.first at n f) n at until c.zone_of.result old new
-          (nothing_behind c.args.first at n f (omega arith) nothing) e.some (omega arith) (rw c.zone_of.ensures e.zone)
+          (nothing_after c.args.first at n f (omega arith) nothing) e.some (omega arith) (rw c.zone_of.ensures e.zone)
           (c.loop-at.invariant.told f nothing told) put);
     }

@@ -8,9 +8,9 @@ use Rattle.boot_journal.proofs.run_list.RunListSlotsOwnerRun.insert.Goals as goa
 pub returns-else-moves_lower_runs-clause-list : goal.returns-else-moves_lower_runs-clause-list
 returns-else-moves_lower_runs-clause-list c =
     let len = ap (λ (v : RunListView). length v.items) c.self.view_is in
-    let behind = c.moves_lower_runs.ensures.high c.if-moves_lower_runs.false in
+    let after = c.moves_lower_runs.ensures.high c.if-moves_lower_runs.false in
     let room : vec_len c.self.inside.records < vec_capacity c.self.inside.records =
-    omega (arith, behind, c.len.ensures, c.capacity.ensures, c.len-2.ensures) in
+    omega (arith, after, c.len.ensures, c.capacity.ensures, c.len-2.ensures) in
     let done : is_ok c.insert.result ≡ true = c.insert.ensures.succeeds room in
     ap (drop c.self.inside.front) (rw done at c.insert.ensures.items)
     ∙ drop-insert c.self.inside.front c.args.i c.args.item c.self.inside.records.items

@@ -35,12 +35,12 @@ invariant_of-self-2 c =
     let base = ap (λ (r : RangeView). r.base) c.set_around.ensures.frames in
     let size = ap (λ (r : RangeView). r.size) c.set_around.ensures.frames in
     let end : c.end.result ≡ b.first + 2 ^ b.order = omega (arith, base, size, aligned) in
-    let behind : c.block_of-behind.result ≡ block_of f (b.first + 2 ^ b.order) = rw (← end, ← ready ∙ stays) c.block_of-behind.ensures in (
+    let after : c.block_of-after.result ≡ block_of f (b.first + 2 ^ b.order) = rw (← end, ← ready ∙ stays) c.block_of-after.ensures in (
       omega (arith, spare, room),
       runs.runs,
       c.remove_frames.ensures.within,
       IfSome_then c.index_after_alloc-rest.result c.index_after_alloc-rest.ensures (λ left told.
-          told f (value_at new) c.in-Ok.ensures.areas (runs_without f new o b.first runs) is.block is.serves.enough behind),
+          told f (value_at new) c.in-Ok.ensures.areas (runs_without f new o b.first runs) is.block is.serves.enough after),
     )
 
 pub returns-clause-first : goal.returns-clause-first

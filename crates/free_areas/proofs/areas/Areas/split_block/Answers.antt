@@ -9,7 +9,7 @@ pub returns : goal.returns
 returns c =
     let e = c.in_ok-remove_and_add_next.ensures in
     on_ok_weaker c.insert_buddies.result
-    (λ buddies f g areas without block inner order next. split_areas f g c.args.order c.args.frame c.args.block.now c.args.behind _ _ _
-    (subst (λ (bs : List Block). IndexesFreeBlocks f bs) (sym c.self.view_is) areas) without block inner order next e.sound e.kept e.behind
+    (λ buddies f g areas without block inner order next. split_areas f g c.args.order c.args.frame c.args.block.now c.args.after _ _ _
+    (subst (λ (bs : List Block). IndexesFreeBlocks f bs) (sym c.self.view_is) areas) without block inner order next e.sound e.kept e.after
     buddies)
     c.insert_buddies.ensures

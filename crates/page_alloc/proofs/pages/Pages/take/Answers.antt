@@ -30,20 +30,20 @@ overflow_mul-result c =
 abbrev before : goal.Joined-take → PagesView
 before c = record { buddy = c.self.inside.buddy; ids = c.self.inside.ids.entries }
 
-abbrev behind : goal.Joined-take → PagesView
-behind c = record { buddy = c.match-take.self-inside.buddy; ids = c.match-take.self-inside.ids.entries }
+abbrev later : goal.Joined-take → PagesView
+later c = record { buddy = c.match-take.self-inside.buddy; ids = c.match-take.self-inside.ids.entries }
 
 abbrev Came : goal.Joined-take → Result PageOutcome Memory → Type 0
-Came c r = IfOk r (λ outcome. (let p : PageOutcome × PageState = (outcome, page_state_of (behind c)) in p)
+Came c r = IfOk r (λ outcome. (let p : PageOutcome × PageState = (outcome, page_state_of (later c)) in p)
     ≡ page_step (page_state_of (before c)) (acts.Pages c.args.id c.args.order c.args.node c.args.zone))
-    × IfOk r (λ outcome. (outcome ≡ outcomes.Taken) ⊎ (outcome ≡ outcomes.NoBlock) → behind c ≡ before c)
+    × IfOk r (λ outcome. (outcome ≡ outcomes.Taken) ⊎ (outcome ≡ outcomes.NoBlock) → later c ≡ before c)
 
-came : (c : goal.Joined-take) → Came c c.match-take.result × IsValidPageState (page_state_of (behind c))
+came : (c : goal.Joined-take) → Came c c.match-take.result × IsValidPageState (page_state_of (later c))
 came c =
     let id = c.args.id in
     let es = c.self.inside.ids.entries in
     let none : frames_held_by es id ≡ None = rw c.in-Vacant.is at c.in-Ok.ensures.found in
-    elim c.match-take.branch as (λ _. Came c c.match-take.result × IsValidPageState (page_state_of (behind c))) [
+    elim c.match-take.branch as (λ _. Came c c.match-take.result × IsValidPageState (page_state_of (later c))) [
       | in-Ok-take w ↦
           let first = w.in-Ok-take.first in
           let what : Held = record { first = first; order = c.args.order; node = c.args.node } in
@@ -53,7 +53,7 @@ came c =
           (sym buddy)
           w.in-Ok-take.ensures.runs in
           let picked = w.in-Ok-take.ensures.first in
-          let is = took (before c) (behind c) id c.args.order c.args.node c.args.zone first none picked runs entries in (
+          let is = took (before c) (later c) id c.args.order c.args.node c.args.zone first none picked runs entries in (
             subst (λ (r : Result PageOutcome Memory). Came c r) (sym w.result-is) (
               is,
               λ refused. elim refused [
@@ -61,14 +61,14 @@ came c =
                 | inr nothing ↦ cc nothing
               ],
             ),
-            kept_by (before c) (behind c) (outcomes.At (FRAME_SIZE * first)) (acts.Pages id c.args.order c.args.node c.args.zone)
+            kept_by (before c) (later c) (outcomes.At (FRAME_SIZE * first)) (acts.Pages id c.args.order c.args.node c.args.zone)
                 c.requires c.self.invariant is,
           )
       | in-Err-NoBlock w ↦
           let entries : c.match-take.self-inside.ids.entries ≡ es = search rules in
           let buddy : c.match-take.self-inside.buddy ≡ c.self.inside.buddy = search rules in
-          let same : behind c ≡ before c = λ i. record { buddy = buddy i; ids = entries i } in
-          let is = took_none (before c) (behind c) id c.args.order c.args.node c.args.zone none
+          let same : later c ≡ before c = λ i. record { buddy = buddy i; ids = entries i } in
+          let is = took_none (before c) (later c) id c.args.order c.args.node c.args.zone none
           (w.in-Err-NoBlock.ensures.none w.in-Err-NoBlock.field-0-is) same in (
             subst (λ (r : Result PageOutcome Memory). Came c r) (sym w.result-is) (is, λ refused. same),
             subst (λ (d : PagesView). IsValidPageState (page_state_of d)) (sym same) c.self.invariant,
@@ -76,7 +76,7 @@ came c =
       | in-Err-Memory w ↦
           let entries : c.match-take.self-inside.ids.entries ≡ es = search rules in
           let buddy : c.match-take.self-inside.buddy ≡ c.self.inside.buddy = search rules in
-          let same : behind c ≡ before c = λ i. record { buddy = buddy i; ids = entries i } in (
+          let same : later c ≡ before c = λ i. record { buddy = buddy i; ids = entries i } in (
             subst (λ (r : Result PageOutcome Memory). Came c r) (sym w.result-is) (tt, tt),
             subst (λ (d : PagesView). IsValidPageState (page_state_of d)) (sym same) c.self.invariant,
           )
@@ -88,7 +88,7 @@ invariant_of-self-in-Vacant c = (came c).1
 pub returns-after-take-clause-ok : goal.returns-after-take-clause-ok
 returns-after-take-clause-ok c =
     subst (λ (d : PagesView). IfOk c.match-take.result (λ outcome.
-    (let p : PageOutcome × PageState = (outcome, page_state_of (behind c)) in p)
+    (let p : PageOutcome × PageState = (outcome, page_state_of (later c)) in p)
     ≡ page_step (page_state_of d) (acts.Pages c.args.id c.args.order c.args.node c.args.zone)))
     c.self.view_is (came c).0.0
 
