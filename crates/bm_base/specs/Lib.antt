@@ -7,6 +7,7 @@ pub mod PutsText
 pub mod ResultSteps
 pub mod Size
 pub mod Spelling
+pub mod Stops
 pub mod Text
 pub mod Width
 pub mod Zones

@@ -77,8 +77,8 @@ pub extern "C" fn bootmem_run_as(
 
     // With status 0 `out` has the text of the outcome, and the four facts of the headline hold for
     // the boot that it describes. With any other status `out` has the empty text.
-    ensures written { result ≡ 0
-        → IsOkAnd (outcome_as profile words.now files.now) (λ text. CopiesText text out.old out.new) }
+    ensures written { result ≡ 0 → IsOkAnd (outcome_as profile words.now files.now)
+        (λ text. CopiesText text out.old out.new) }
     ensures headline { result ≡ 0 → (text : List ℕ) × CopiesText text out.old out.new
         × HasReportsAs profile words.now files.now text }
     ensures unwritten { result ≢ 0 → CopiesText [] out.old out.new }

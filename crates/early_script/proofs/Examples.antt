@@ -1,5 +1,5 @@
 -- Examples: two live IDs in a small machine, and what each act does with them.
-use Rattle.std.proofs.Common.{◌≡◌, ℕ, suc, zero, ◌+◌, ◌++◌, true, false, Some, None, List, [], ◌∷◌, length, take, refl, sym, ap, subst, arith, inl, inr, length-take, length-append}
+use Rattle.std.proofs.Common.{◌≡◌, ◌++◌, true, false, Some, None, List, [], ◌∷◌, length, refl, sym, ap, subst, arith, inl, inr, length-append}
 use Rattle.std.proofs.lemmas.Bool.{true≢false}
 use Rattle.bm_base.specs.Range.{RangeView}
 use Rattle.bm_base.specs.Each.{each_from, each_in}
@@ -121,30 +121,31 @@ fill_wants : (m : MemblockView) → state_of_memblock ids m ≡ found → AreByt
     RunsOutDuringLines begun (frees_none ∷ fills_first ∷ []) ids m (record { line = 8; outcome = outcomes.Unknown } ∷ [])
 unfolding act_effect is_owned_by each_in each_from
 fill_wants m same holds = record {
-  count = 1;
-  line = fills_first;
-  next = refl;
-  answers_are = refl;
-  amid = subst (λ (t : ScriptState). RunsOutDuringLine found t (fill_effect found 1 7)) (sym same) (inr (refl, refl, refl), refl, refl);
-  holds = holds;
+  before = frees_none ∷ [];
+  element = fills_first;
+  after = [];
+  is = refl;
+  holds = record {
+    answers_are = refl;
+    amid = subst (λ (t : ScriptState). RunsOutDuringLine found t (fill_effect found 1 7)) (sym same) (inr (refl, refl, refl), refl, refl);
+    bytes = holds;
+  };
 }
 
-free_out : (later : ScriptState) (count : ℕ) (line : Line) → take (count + 1) (frees_none ∷ []) ≡ take count (frees_none ∷ []) ++ line ∷ []
-    →
-    RunsOutDuringLine (script_after_lines begun (take count (frees_none ∷ []))).state later
-    (line_effect (script_after_lines begun (take count (frees_none ∷ []))) line) → ⊥
+free_out : (later : ScriptState) (before after : List Line) (line : Line) → frees_none ∷ [] ≡ before ++ line ∷ after →
+    RunsOutDuringLine (script_after_lines begun before).state later (line_effect (script_after_lines begun before) line) → ⊥
 unfolding act_effect
-free_out later zero line next amid =
-    let same : line ≡ frees_none = cc next in
+free_out later [] after line is amid =
+    let same : line ≡ frees_none = cc is in
     let here = subst (λ (l : Line). RunsOutDuringLine found later (line_effect begun l)) same amid in
     elim here.0 [
       | inl cut ↦ absurd (omega (arith, cut.short))
-      | inr after ↦ true≢false (sym after.0)
+      | inr takes ↦ true≢false (sym takes.0)
     ]
-free_out later (suc k) line next amid =
-    absurd (omega (arith, simp (length-take, length-append) at (ap (λ (ls : List Line). length ls) next)))
+free_out later (x ∷ xs) after line is amid =
+    absurd (omega (arith, simp (length-append) at (ap (λ (ls : List Line). length ls) is)))
 
 free_wants_none : (m : MemblockView) (later : LiveView) (answer_only : List Answer)
     → ¬ RunsOutDuringLines begun (frees_none ∷ []) later m answer_only
 unfolding act_effect
-free_wants_none m later answer_only ends = free_out (state_of_memblock later m) ends.count ends.line ends.next ends.amid
+free_wants_none m later answer_only ends = free_out (state_of_memblock later m) ends.before ends.after ends.element ends.is ends.holds.amid

@@ -16,7 +16,7 @@ use Rattle.early_script.specs.Effects.{ScriptState, RunsOutDuringLine, act_effec
 use Rattle.early_script.specs.FromMemblock.{state_of_memblock, memblock_bytes}
 use Rattle.early_script.specs.Lines.{ScriptSoFar, MatchesScriptSoFar, RunsOutDuringLines, IsPrefixChain, line_effect, script_after_line, script_after_lines}
 use Rattle.early_script.proofs.RunLaws.{ran-cut}
-use Rattle.early_script.proofs.StageLaws.{script_after_lines-append, act_effect-reached}
+use Rattle.early_script.proofs.StageLaws.{act_effect-reached}
 
 -- this program ran out of memory during the next line, after the lines before it were run
 pub out-amid : (start : ScriptSoFar) (lines : List Line) (i : ℕ) (line : Line) (ids later : LiveView) (m next : MemblockView)
@@ -29,13 +29,17 @@ pub out-amid : (start : ScriptSoFar) (lines : List Line) (i : ℕ) (line : Line)
 out-amid start lines i line ids later m next answers more reached amid holds =
     let s : ScriptSoFar = script_after_lines start (take i lines) in
     let here = rw (act_effect-reached s ids m answers line reached) at amid in
+    let rest = drop (i + 1) lines in
     record {
-      count = i;
-      line = line;
-      next = more;
-      answers_are = reached.answers_are;
-      amid = subst (λ (t : ScriptState). RunsOutDuringLine t (state_of_memblock later next) (line_effect s line)) reached.state here;
-      holds = holds s.fills reached.holds;
+      before = take i lines;
+      element = line;
+      after = rest;
+      is = sym (take-append-drop (i + 1) lines) ∙ ap (λ (ls : List Line). ls ++ rest) more ∙ append_assoc (take i lines) (line ∷ []) rest;
+      holds = record {
+        answers_are = reached.answers_are;
+        amid = subst (λ (t : ScriptState). RunsOutDuringLine t (state_of_memblock later next) (line_effect s line)) reached.state here;
+        bytes = holds s.fills reached.holds;
+      };
     }
 
 -- one list is the beginning of another
@@ -78,13 +82,10 @@ script_after_lines-both s [] b = refl
 script_after_lines-both s (line ∷ a) b = script_after_lines-both (script_after_line s line) a b
 
 -- all lines are those that were run, the next one, and those after it
-all-lines : (start : ScriptSoFar) (lines : List Line) (i : ℕ) (line : Line) → take (i + 1) lines ≡ take i lines ++ line ∷ [] →
-    script_after_lines start lines
-    ≡ script_after_lines (script_after_line (script_after_lines start (take i lines)) line) (drop (i + 1) lines)
-all-lines start lines i line more =
-    let rest = drop (i + 1) lines in
-    ap (script_after_lines start) (sym (take-append-drop (i + 1) lines)) ∙ script_after_lines-both start (take (i + 1) lines) rest
-    ∙ rw (more, script_after_lines-append start (take i lines) line) refl
+all-lines : (start : ScriptSoFar) (lines before after : List Line) (line : Line) → lines ≡ before ++ line ∷ after →
+    script_after_lines start lines ≡ script_after_lines (script_after_line (script_after_lines start before) line) after
+all-lines start lines before after line is =
+    ap (script_after_lines start) is ∙ script_after_lines-both start before (line ∷ after)
 
 -- the items after all lines have been run
 pub between-all : (start : ScriptSoFar) (lines : List Line) (ids : LiveView) (m : MemblockView) (answers : List Answer) →
@@ -102,16 +103,16 @@ pub between-out : (start : ScriptSoFar) (lines : List Line) (ids : LiveView) (m 
     RunsOutDuringLines start lines ids m answers →
     IsPrefixChain start.state.items m.journal.items (script_after_lines start lines).state.items
 between-out start lines ids m answers out =
-    let so_far : ScriptSoFar = script_after_lines start (take out.count lines) in
-    let next : ScriptSoFar = script_after_line so_far out.line in
+    let so_far : ScriptSoFar = script_after_lines start out.before in
+    let next : ScriptSoFar = script_after_line so_far out.element in
     let whole = (script_after_lines start lines).state.items in
     let goes_further : Goes next.state.items whole =
-    rw (all-lines start lines out.count out.line out.next) (lines-go next (drop (out.count + 1) lines)) in
-    let d = line_effect so_far out.line in
+    rw (all-lines start lines out.before out.after out.element out.is) (lines-go next out.after) in
+    let d = line_effect so_far out.element in
     let change = d.change so_far.state.items in
-    let cut = ran-cut d.takes so_far.state.items m.journal.items change out.amid.0 in
+    let cut = ran-cut d.takes so_far.state.items m.journal.items change out.holds.amid.0 in
     between start.state.items m.journal.items whole
-    (goes-then start.state.items so_far.state.items m.journal.items (lines-go start (take out.count lines))
+    (goes-then start.state.items so_far.state.items m.journal.items (lines-go start out.before)
     (record { more = items_of_steps (take cut.count change.steps); on = cut.stands }))
     (goes-then m.journal.items next.state.items whole (cut-goes-on so_far.state.items m.journal.items change cut) goes_further)
 

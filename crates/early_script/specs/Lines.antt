@@ -1,7 +1,8 @@
 -- Lines in order, each with its outcome.
-use Rattle.std.specs.Prelude.{◌≡◌, ◌⊎◌, ℕ, ◌+◌, ◌<◌, if◌then◌else◌, List, [], ◌∷◌, ◌++◌, length, take, Vec, vec_capacity}
+use Rattle.std.specs.Prelude.{◌≡◌, ◌⊎◌, ℕ, ◌+◌, ◌<◌, if◌then◌else◌, List, [], ◌∷◌, ◌++◌, length, Vec, vec_capacity}
 use Rattle.std.specs.List.{All}
 use Rattle.std.specs.declared.alloc.Global.{Global}
+use Rattle.bm_base.specs.Stops.{StopsAtElement}
 use Rattle.memblock_model.specs.declared.item.Item.{Item}
 use Rattle.script_reader.specs.Script.{is_sections}
 use Rattle.script_reader.specs.declared.act.Line.{Line}
@@ -58,17 +59,17 @@ pub record RunsOutBeforeLines (ids : LiveView) (m : MemblockView) (answers : Vec
   pub memblock_stays : next ≡ m
   pub answers_stay : told.items ≡ answers.items
 
--- this program ran out of memory during a line (`RunsOutDuringLine`). The `count` lines before it
--- have been run, and their outcomes are in the list.
-pub record RunsOutDuringLines (s : ScriptSoFar) (lines : List Line) (ids : LiveView) (m : MemblockView)
-    (answers : List Answer) : Type 0 where
-  pub count : ℕ
-  pub line : Line
-  pub next : take (count + 1) lines ≡ take count lines ++ line ∷ []
-  pub answers_are : answers ≡ (script_after_lines s (take count lines)).answers
-  pub amid : RunsOutDuringLine (script_after_lines s (take count lines)).state (state_of_memblock ids m)
-      (line_effect (script_after_lines s (take count lines)) line)
-  pub holds : AreBytesFromHistory m.kernel m.journal.items (script_after_lines s (take count lines)).fills (memblock_bytes m)
+-- this program ran out of memory during a line (`RunsOutDuringLine`) after `so_far`. The list has
+-- the outcomes of the lines before it, and the bytes are those that their fills give.
+pub record RunsOutAfter (so_far : ScriptSoFar) (line : Line) (ids : LiveView) (m : MemblockView) (answers : List Answer) : Type 0 where
+  pub answers_are : answers ≡ so_far.answers
+  pub amid : RunsOutDuringLine so_far.state (state_of_memblock ids m) (line_effect so_far line)
+  pub bytes : AreBytesFromHistory m.kernel m.journal.items so_far.fills (memblock_bytes m)
+
+-- this program ran out of memory during one of the lines; those before it have been run
+abbrev pub RunsOutDuringLines : ScriptSoFar → List Line → LiveView → MemblockView → List Answer → Type 0
+RunsOutDuringLines s lines ids m answers =
+    StopsAtElement (λ before line. RunsOutAfter (script_after_lines s before) line ids m answers) lines
 
 -- this program ran out of memory before the first line, or during one of the lines. The second is
 -- stated for each list of fills that gives the bytes before the lines.

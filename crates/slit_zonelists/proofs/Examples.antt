@@ -15,7 +15,7 @@ use Rattle.slit_zonelists.specs.declared.table.SlitFault.TheVariants as faults
 use Rattle.slit_zonelists.specs.declared.uses.SlitUse.TheVariants as uses
 use Rattle.slit_zonelists.specs.Lists.{ZoneListsView, distance_in, zonelists_from_slit, zones_at_distance, zone_list_of}
 use Rattle.slit_zonelists.specs.SlitView.{SlitView, slit_cell, IsSquare}
-use Rattle.slit_zonelists.specs.Near.{first_zone, take_from_zone, take_from_nearest, page_step_by_distance, page_answers_of, page_state_after, StopsAtLine}
+use Rattle.slit_zonelists.specs.Near.{first_zone, take_from_zone, take_from_nearest, page_step_by_distance, page_answers_of, page_state_after, RunsOutAtPageLine}
 use Rattle.slit_zonelists.specs.Table.{locality_count, first_slit_fault, slit_of}
 use Rattle.slit_zonelists.specs.Uses.{is_bad_cell, first_bad_cell, slit_use}
 
@@ -113,8 +113,8 @@ abbrev holding : PageState
 holding = record { frames = λ x. None; held = λ id. Some five }
 
 -- this program may be out of memory at a line that frees, after a line that was answered
-amid_example : StopsAtLine nodes holding (near 5 ∷ give 6 ∷ []) holding
-amid_example = record { before = near 5 ∷ []; line = give 6; after = []; is = refl; takes = tt; state = refl }
+amid_example : RunsOutAtPageLine nodes holding (near 5 ∷ give 6 ∷ []) holding
+amid_example = record { before = near 5 ∷ []; element = give 6; after = []; is = refl; holds = (tt, refl) }
 
 refused_out : (s : PageState) (before : List PageLine) (line : PageLine) (after : List PageLine) → near 5 ∷ [] ≡ before ++ line ∷ after
     → (NeedsMemory (page_step_by_distance nodes s (acts.Near 1 0 0)).0 → ⊥)
@@ -128,5 +128,5 @@ refused_out s (x ∷ xs) line after is refused takes =
     absurd (omega (arith, many))
 
 -- never at a line that is refused since its ID holds something
-held_wants_none : (later : PageState) → StopsAtLine nodes holding (near 5 ∷ []) later → ⊥
-held_wants_none later ends = refused_out holding ends.before ends.line ends.after ends.is (λ takes. takes) ends.takes
+held_wants_none : (later : PageState) → RunsOutAtPageLine nodes holding (near 5 ∷ []) later → ⊥
+held_wants_none later ends = refused_out holding ends.before ends.element ends.after ends.is (λ takes. takes) ends.holds.0

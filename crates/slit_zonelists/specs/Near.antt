@@ -2,6 +2,7 @@
 -- do.
 use Rattle.std.specs.Prelude.{◌≡◌, ◌⊎◌, ℕ, ◌<◌, Bool, true, false, is_some, Option, Some, None, List, [], ◌∷◌, ◌++◌, length}
 use Rattle.std.specs.List.{find, All}
+use Rattle.bm_base.specs.Stops.{StopsAtElement}
 use Rattle.buddy_blocks.specs.PickedBlock.{picked_first_frame}
 use Rattle.page_alloc.specs.declared.act.PageAct.{PageAct}
 use Rattle.page_alloc.specs.declared.act.PageAct.TheVariants as acts
@@ -55,23 +56,21 @@ page_state_after k s (l ∷ ls) = page_state_after k (page_step_by_distance k s 
 
 -- this program ran out of memory before the first line: there is at least one line, and nothing
 -- has changed
-pub record StopsBeforeLines (b : PagesView) (lines : List PageLine) (later : PagesView) : Type 0 where
+pub record RunsOutBeforePageLines (b : PagesView) (lines : List PageLine) (later : PagesView) : Type 0 where
   pub some : 0 < length lines
   pub pages_stay : later ≡ b
 
 -- this program ran out of memory at a line that isn't refused: the lines before it have been
 -- carried out, and nothing has changed since then
-pub record StopsAtLine (k : ZoneListsView) (s : PageState) (lines : List PageLine) (later : PageState) : Type 0 where
-  pub before : List PageLine
-  pub line : PageLine
-  pub after : List PageLine
-  pub is : lines ≡ before ++ line ∷ after
-  pub takes : NeedsMemory (page_step_by_distance k (page_state_after k s before) line.act).0
-  pub state : later ≡ page_state_after k s before
+abbrev pub RunsOutAtPageLine : ZoneListsView → PageState → List PageLine → PageState → Type 0
+RunsOutAtPageLine k s lines later = StopsAtElement (λ before line.
+    NeedsMemory (page_step_by_distance k (page_state_after k s before) line.act).0
+    × (later ≡ page_state_after k s before)) lines
 
 -- this program ran out of memory before the first line, or at one of the lines
-abbrev pub RunsOutInPageScript : ZoneListsView → PagesView → List PageLine → PagesView → Type 0
-RunsOutInPageScript k b lines later = StopsBeforeLines b lines later ⊎ StopsAtLine k (page_state_of b) lines (page_state_of later)
+abbrev pub PageScriptRunsOut : ZoneListsView → PagesView → List PageLine → PagesView → Type 0
+PageScriptRunsOut k b lines later =
+    RunsOutBeforePageLines b lines later ⊎ RunsOutAtPageLine k (page_state_of b) lines (page_state_of later)
 
 -- the zone is in the list and has a block of the order or a greater one, and no zone before it in
 -- the list has such a block

@@ -6,7 +6,7 @@ ghost use Rattle.std.specs.BTreeMap.{get};
 ghost use Rattle.std.specs.Ordering.{nat_cmp};
 ghost use Rattle.page_alloc.specs.PagesView.{page_state_of};
 ghost use Rattle.page_alloc.specs.Pages.{HasValidOrder, HaveValidOrders, NeedsMemory};
-ghost use Rattle.slit_zonelists.specs.Near.{page_step_by_distance, page_answers_of, page_state_after, RunsOutInPageScript};
+ghost use Rattle.slit_zonelists.specs.Near.{page_step_by_distance, page_answers_of, page_state_after, PageScriptRunsOut};
 ghost use Rattle.slit_zonelists.specs.MadeLists.{AreZoneListsOfNodes};
 
 use crate::lists::Lists;
@@ -35,7 +35,7 @@ pub fn run_page_lines(
     requires { HaveValidOrders lines.now }
     ensures answers { IfOk result (λ answers.
         answers.items ≡ page_answers_of lists.now (page_state_of pages.old) lines.now) }
-    ensures memory { OnErr result (RunsOutInPageScript lists.now pages.old lines.now pages.new) }
+    ensures memory { OnErr result (PageScriptRunsOut lists.now pages.old lines.now pages.new) }
     ensures after { OnOk result (page_state_of pages.new
         ≡ page_state_after lists.now (page_state_of pages.old) lines.now) }
 {

@@ -61,10 +61,12 @@ returns-in_err-outcome-clause-memory c =
     let more = drop_more lines i nothing c.loop-line-test.true in
     on_err c.from_residual-in_err-outcome.result _ (inr (record {
       before = take i lines;
-      line = line;
+      element = line;
       after = drop (i + 1) lines;
       is = sym (take-append-drop i lines) ∙ ap (λ (ls : List PageLine). take i lines ++ ls) more;
-      takes = subst
-          (λ (u : PageState). NeedsMemory (page_step_by_distance c.args.lists.now u line.act).0) so_far c.in_err-outcome.ensures.memory;
-      state = ap page_state_of c.in_err-outcome.ensures.err ∙ so_far;
+      holds = (
+        subst
+            (λ (u : PageState). NeedsMemory (page_step_by_distance c.args.lists.now u line.act).0) so_far c.in_err-outcome.ensures.memory,
+        ap page_state_of c.in_err-outcome.ensures.err ∙ so_far,
+      );
     }))
