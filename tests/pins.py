@@ -28,7 +28,7 @@ PROMISED = {
     "boot_stages/later-run_stages-early_claims_after_the_nodes",
     "crash_kernel/request-bounded_size_for_total-range_after_the_refused_one",
     "crash_kernel/request-rounded_total-rounded_down",
-    "zone_spans/hull-add_hull_spans-hull_of_all_nodes_so_far",
+    "zone_spans/hull-add_zone_parts_of_hull-hull_of_all_nodes_so_far",
     # the firmware's map
     "e820_model/run-join-later_entry_wins",
     "boot_stages/map-append_and_sanitise-edits_act_on_unsettled_claims",

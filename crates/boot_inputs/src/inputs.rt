@@ -1,4 +1,4 @@
-//! Reads all input files, in their order.
+//! Reads all input files, in the order of [`Input`].
 
 ghost use Rattle.std.specs.Prelude.{IfErr, IfOk, IfSome, IsNone, IsOk};
 ghost use Rattle.boot_model.specs.Facts.{HaveBounds, HaveNoSections};

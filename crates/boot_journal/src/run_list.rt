@@ -68,16 +68,16 @@ impl RunList {
         if more <= self.front && more <= after {
             return Ok(());
         }
-        self.widen(more)
+        self.reserve_both_ends(more)
     }
 
-    /// Moves the runs to new memory. Before the first run and after the last one there is then
-    /// room for `more` runs, plus half as many as the list has.
+    /// Moves the runs to new memory with room at both ends: for `more` runs and half the list's
+    /// length, before the first run and again after the last one.
     ///
     /// # Errors
     ///
     /// - `Memory`: the program ran out of memory; the list is unchanged.
-    fn widen(&mut self, more: usize) -> Result<(), Memory>
+    fn reserve_both_ends(&mut self, more: usize) -> Result<(), Memory>
         ensures items { self.new.items ≡ self.old.items }
         ensures room { OnOk result (length self.old.items + more ≤ self.new.room) }
         ensures err { OnErr result (self.new ≡ self.old) }

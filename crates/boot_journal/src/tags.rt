@@ -16,8 +16,8 @@ ghost use Rattle.boot_journal.specs.Bytes.{is_trim, marks_after, marks_after_ite
 use bm_base::{FRAME_SIZE, Range};
 use memblock_model::{Item, Marks, Tag};
 
-/// Returns the marks of the byte at `x` after an item other than a trim, or `None` if the byte
-/// isn't memory. `carried` has the byte's marks before the item.
+/// Returns the marks of the byte at `x` (its node and its mirror flag) after the item, or `None` if
+/// the byte isn't memory then. The item isn't a trim. `carried` has the marks before the item.
 fn marks_after(carried: Option<Marks>, item: &Item, x: u64) -> Option<Marks>
     ensures { result ≡ marks_after x carried item.now }
 {

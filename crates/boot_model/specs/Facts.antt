@@ -1,4 +1,5 @@
--- The facts about a boot's inputs are propositions: each has at most one proof.
+-- Each fact about a boot's inputs (`EntriesFit`, `HaveTypes`, `HaveBounds`, ..) has at most one
+-- proof, so inputs with the same data are equal.
 use Rattle.std.specs.Prelude.{IfSome, List, [], ◌∷◌, Option, Some, None}
 use Rattle.std.specs.List.{All}
 use Rattle.std.specs.Coded.{×_prop, Unit-prop, le_prop}

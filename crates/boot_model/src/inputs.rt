@@ -45,7 +45,8 @@ pub fn is_kernel(range: &Range, width: Width) -> bool
         && range.end() <= width.limit()
 }
 
-/// The inputs of a boot.
+/// What a boot depends on: the contents of the input files and the values of the options. It has
+/// the results of reading them, which have no fault.
 #[derive(Drop)]
 pub struct Inputs {
     /// The zero page (`struct boot_params`): its entries, and the initrd if there is one. Each

@@ -32,8 +32,8 @@ use Rattle.memblock_grow.specs.MemblockView.{MemblockView}
 use Rattle.early_script.specs.declared.outcome.Answer.{Answer}
 use Rattle.early_script.specs.LiveView.{LiveView}
 
--- the result of `Table::runs`, by which the e820 table returns the finished map: its runs, each a
--- range of addresses with an e820 type; or the error
+-- what `Table::runs` returns: the runs of the finished map, each a range of addresses with an e820
+-- type, or the error
 abbrev pub TableMapResult : Type 0
 TableMapResult = Result (Vec (RunOf ℕ) Global) MapFault
 

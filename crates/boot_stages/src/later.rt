@@ -21,7 +21,7 @@ use crate::added::memory_bytes_of_map;
 use crate::memory::make_memory;
 use bm_base::Width;
 use boot_model::{Extra, Inputs, Stop};
-use crash_kernel::{Crash, reserve_by};
+use crash_kernel::{Crash, reserve_by_rule};
 use e820_sanitise::Run;
 use early_script::{Answer, Live, run_script_lines, split_at_sections};
 use memblock_grow::Memblock;
@@ -113,7 +113,7 @@ pub fn run_stages(
         inputs.options.numa_off,
     )?;
     let added = memory_bytes_of_map(map, inputs.reach());
-    let crash = reserve_by(memblock, extra.profile.crash, added, &inputs.options.crash)?;
+    let crash = reserve_by_rule(memblock, extra.profile.crash, added, &inputs.options.crash)?;
     let mut answers = Vec::new(alloc);
     let (before, after) = split_at_sections(&inputs.lines);
     run_script_lines(&mut live, memblock, before, &mut answers)?;

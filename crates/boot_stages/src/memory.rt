@@ -56,9 +56,10 @@ fn claim_early(memblock: &mut Memblock, kernel: Range, initrd: Option<Range>) ->
     }
 }
 
-/// Claims the run if firmware sets it aside for a driver (`E820_TYPE_SOFT_RESERVED`). If the run is
-/// memory, adds the part of it that lies below `reach`, the limit of physical addresses, unless
-/// that part is empty. Ignores all other runs (`e820__memblock_setup`).
+/// Claims the run (`memblock_reserve`) if firmware sets it aside for a driver
+/// (`E820_TYPE_SOFT_RESERVED`). If the run is memory, adds the part of it that lies below `reach`,
+/// the limit of physical addresses, unless that part is empty (`memblock_add`). Ignores all other
+/// runs (`e820__memblock_setup`).
 fn add_run(memblock: &mut Memblock, run: &Run, reach: u64) -> Result<(), Refusal>
     requires some { 0 < run.now.size }
     requires begun { HasFirstItem memblock.old.journal.items }

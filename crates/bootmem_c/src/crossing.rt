@@ -19,8 +19,8 @@ pub struct File<'a> {
     pub bytes: &'a [u8],
 }
 
-/// A buffer for a text (`room`), which the caller passes. The call sets `needed` to the length of
-/// the text in bytes, even if the text doesn't fit.
+/// A text for the caller. `room` is the caller's buffer. The call copies the text into it if it
+/// fits, and sets `needed` to the length of the text in bytes, even if it doesn't.
 #[repr(C)]
 #[derive(Drop)]
 pub struct Text<'a> {

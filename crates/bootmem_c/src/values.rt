@@ -26,8 +26,8 @@ pub struct MapRun {
     pub kind: u32,
 }
 
-/// A buffer for runs of the memory map (`room`), which the caller passes. The call sets `count` to
-/// the number of all runs, even if they don't all fit.
+/// Runs of the memory map, for the caller. `room` is the caller's buffer. The call fills it, and
+/// sets `count` to the number of all runs, even if they don't all fit.
 #[repr(C)]
 #[derive(Drop)]
 pub struct MapRuns<'a> {
@@ -63,8 +63,8 @@ pub struct FreeBlock {
     pub zone: u32,
 }
 
-/// A buffer for free blocks (`room`), which the caller passes. The call sets `count` to the number
-/// of all free blocks, even if they don't all fit.
+/// Free blocks, for the caller. `room` is the caller's buffer. The call fills it, and sets `count`
+/// to the number of all free blocks, even if they don't all fit.
 #[repr(C)]
 #[derive(Drop)]
 pub struct FreeBlocks<'a> {
@@ -72,8 +72,9 @@ pub struct FreeBlocks<'a> {
     pub count: usize,
 }
 
-/// The range of frames that a node spans in a zone: from its lowest memory frame in the zone to
-/// its highest.
+/// The range of frames that a node spans in a zone. With the profile of `bootmem` it goes from the
+/// node's lowest memory frame in the zone to its highest; with that of `bootmem61` it is the part
+/// of the zone between the node's lowest and highest memory frame.
 #[repr(C)]
 #[derive(Clone, Copy)]
 pub struct ZoneSpan {
@@ -88,8 +89,8 @@ pub struct ZoneSpan {
     pub zone: u32,
 }
 
-/// A buffer for the ranges of frames that nodes span in zones (`room`), which the caller passes.
-/// The call sets `count` to the number of all ranges, even if they don't all fit.
+/// Ranges of frames that nodes span in zones, for the caller. `room` is the caller's buffer. The
+/// call fills it, and sets `count` to the number of all ranges, even if they don't all fit.
 #[repr(C)]
 #[derive(Drop)]
 pub struct ZoneSpans<'a> {
@@ -108,8 +109,8 @@ pub struct MemoryNode {
     pub has_domain: u32,
 }
 
-/// A buffer for nodes (`room`), which the caller passes. The call sets `count` to the number of
-/// all nodes that have memory, even if they don't all fit.
+/// Nodes, for the caller. `room` is the caller's buffer. The call fills it, and sets `count` to the
+/// number of all nodes that have memory, even if they don't all fit.
 #[repr(C)]
 #[derive(Drop)]
 pub struct MemoryNodes<'a> {
@@ -131,8 +132,8 @@ pub struct MemoryRange {
     pub node: u32,
 }
 
-/// A buffer for records of memory (`room`), which the caller passes. The call sets `count` to the
-/// number of all records, even if they don't all fit.
+/// Records of memory, for the caller. `room` is the caller's buffer. The call fills it, and sets
+/// `count` to the number of all records, even if they don't all fit.
 #[repr(C)]
 #[derive(Drop)]
 pub struct MemoryRanges<'a> {
@@ -284,16 +285,16 @@ pub fn memory_values(alloc: Global, store: &Store, head: &Head) -> Result<Vec<Me
     Ok(values)
 }
 
-/// Returns the ranges of frames that nodes span in zones as values for C, in the same order. Fails
-/// only if out of memory.
+/// Converts `spans`, the frames that each node spans in each zone, to values for C, in the same
+/// order. Fails only if out of memory.
 pub fn zone_values(alloc: Global, spans: &[Span]) -> Result<Vec<ZoneSpan>, Memory>
     ensures { IfOk result (λ values. values.items ≡ map span_value spans.now) }
 {
     Ok(spans.iter().map(ZoneSpan::of).collect(alloc)?)
 }
 
-/// Returns the nodes that have memory as values for C, in the same order. Fails only if out of
-/// memory.
+/// Converts the nodes that have memory to values for C, in the order of `nodes`. Fails only if out
+/// of memory.
 pub fn node_values(alloc: Global, nodes: &Nodes) -> Result<Vec<MemoryNode>, Memory>
     ensures { IfOk result (λ values. values.items
         ≡ map (node_value nodes.now.domains.items) nodes.now.with_memory.items) }
@@ -308,7 +309,7 @@ pub fn node_values(alloc: Global, nodes: &Nodes) -> Result<Vec<MemoryNode>, Memo
     )
 }
 
-/// Returns the runs of the memory map as values for C, in the same order. Fails only if out of
+/// Converts the runs of the memory map to values for C, in the same order. Fails only if out of
 /// memory.
 pub fn map_values(alloc: Global, runs: &[Run]) -> Result<Vec<MapRun>, Memory>
     ensures { IfOk result (λ values. values.items ≡ map run_value runs.now) }
@@ -316,7 +317,7 @@ pub fn map_values(alloc: Global, runs: &[Run]) -> Result<Vec<MapRun>, Memory>
     Ok(runs.iter().map(MapRun::from_map_run).collect(alloc)?)
 }
 
-/// Returns the free blocks as values for C, in the same order. Fails only if out of memory.
+/// Converts the free blocks to values for C, in the same order. Fails only if out of memory.
 pub fn block_values(alloc: Global, blocks: &[Block]) -> Result<Vec<FreeBlock>, Memory>
     ensures { IfOk result (λ values. values.items ≡ map block_value blocks.now) }
 {

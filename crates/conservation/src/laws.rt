@@ -63,7 +63,7 @@ pub fn handed_frames_stay_in_one_block_or_held()
 
 /// Law: a frame is usable exactly if it lies below the limit of physical addresses and all its
 /// bytes are RAM or the kernel's own memory in the map that the boot reports.
-pub fn map_determines_usable_frames()
+pub fn usable_frames_are_ram_below_limit()
     ensures own { (inputs : InputsView) (booted : BootedView) (frame : ℕ) →
         whole_boot inputs ≡ Ok booted →
         (IsUsable inputs frame ↔ IsUsableByMap (booted_address_limit booted) booted.map frame) }

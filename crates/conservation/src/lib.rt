@@ -24,6 +24,6 @@ mod laws;
 
 pub use laws::{
     blocks_are_maximal, blocks_are_whole, handed_frames_stay_in_one_block_or_held,
-    map_determines_usable_frames, no_other_frame_is_in_a_block,
+    no_other_frame_is_in_a_block, usable_frames_are_ram_below_limit,
     usable_frames_are_touched_or_in_one_block,
 };

@@ -29,7 +29,8 @@ request_of_size size where_to = if size == 0 then None else Some (record { size 
 abbrev pub placement_for : ℕ → Placement
 placement_for base = if base == 0 then placement.Automatic else placement.Fixed base
 
--- the area that the plain form requests: `SIZE`, `SIZE@BASE`, or ranges of total memory
+-- the area that the plain form (`SIZE[@BASE]`, or `RANGE:SIZE,...[@BASE]`) requests if memory has
+-- `total` bytes. None without the form, or if its size for that total is 0.
 abbrev pub plain_request : ℕ → Option CrashPlainView → Option AreaRequest
 plain_request total None = None
 plain_request total (Some form) = request_of_size (size_for_total total form.ranges) (placement_for form.base)

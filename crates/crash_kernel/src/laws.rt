@@ -35,7 +35,7 @@ pub fn reserved_area_was_free()
         → IsCrashArea asked items main low }
 {}
 
-/// Law: by the rule `ExactTotal`, [`reserve_by`](crate::reserve_by) does exactly what
+/// Law: by the rule `ExactTotal`, [`reserve_by_rule`](crate::reserve_by_rule) does exactly what
 /// [`reserve`](crate::reserve) does. The number `added` plays no part in it.
 pub fn own_rule_is_reserve()
     ensures { (added : ℕ) (asked : CrashOptionView) →

@@ -7,7 +7,7 @@
 //! range below 4 GiB, for devices that can't address more. If no range fits the low part, the area
 //! is freed again. The outcome is a [`Crash`]. An area that doesn't fit never stops the boot.
 //!
-//! [`reserve_by`] takes a [`CrashRule`] in addition: how ranges of total memory give the size. With
+//! [`reserve_by_rule`] takes a [`CrashRule`] in addition: how ranges of total memory give the size. With
 //! `bootmem`'s own rule it does what [`reserve`] does ([`own_rule_is_reserve`]).
 //!
 //! The definitions follow the kernel function:
@@ -36,5 +36,5 @@ pub use laws::{
     area_by_rule_was_free, own_rule_is_reserve, reserve_by_keeps_memory_and_limit,
     reserve_keeps_memory_and_limit, reserved_area_was_free,
 };
-pub use reservation::{reserve, reserve_by};
+pub use reservation::{reserve, reserve_by_rule};
 pub use rule::CrashRule;

@@ -47,7 +47,7 @@ pub fn reserve(memblock: &mut Memblock, option: &CrashOption) -> Result<Crash, R
     ensures found { IfErr result (λ refusal. refusal ≢ refusals.NoGap) }
     ensures goes_on { ContinuesMemblock memblock.old memblock.new }
 {
-    reserve_by(memblock, CrashRule::ExactTotal, 0, option)
+    reserve_by_rule(memblock, CrashRule::ExactTotal, 0, option)
 }
 
 /// Reserves the crash area that `option` requests, and its low part if it needs one
@@ -62,7 +62,7 @@ pub fn reserve(memblock: &mut Memblock, option: &CrashOption) -> Result<Crash, R
 ///
 /// - `NoGapForTable` if a table has to grow for a claim or a free and no place is found for it.
 /// - `Memory` if this program is out of memory.
-pub fn reserve_by(
+pub fn reserve_by_rule(
     memblock: &mut Memblock,
     rule: CrashRule,
     added: u64,

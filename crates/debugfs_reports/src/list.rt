@@ -73,8 +73,8 @@ pub fn reports_named_in(alloc: Global, known: &[Report], list: &[u8]) -> Result<
 }
 
 /// Returns the text of each report in a list, in the order of the list. If the list has two or
-/// more, each text begins with the title line `== NAME`. Joined together, the texts are the whole
-/// text of the list.
+/// more, each text begins with the title line `== NAME`. Joined together, the texts are
+/// what the program prints for the list.
 ///
 /// # Errors
 ///

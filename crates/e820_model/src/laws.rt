@@ -32,7 +32,7 @@ pub fn final_claims_are_single()
 /// Law: if no entries of an EFI map are added, the claims of the final map are made from those
 /// after the options' edits in two steps. Each address keeps only its greatest claim
 /// (`e820__update_table`), and RAM is trimmed in the areas of the BIOS (`trim_bios_range`).
-pub fn edits_alone_make_the_map()
+pub fn map_without_efi_entries()
     ensures { (entries extension : List AnyEntry) (edits : List AnyEdit) →
         final_claims entries extension edits []
         ≡ after_bios_trim

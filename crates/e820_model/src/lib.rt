@@ -23,7 +23,7 @@ pub use entry::{
     Entry,
 };
 pub use laws::{
-    edits_alone_make_the_map, final_claims_are_single, greatest_is_greatest, map_is_runs,
+    final_claims_are_single, greatest_is_greatest, map_is_runs, map_without_efi_entries,
     settling_keeps_types,
 };
 pub use run::Run;

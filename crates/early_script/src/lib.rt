@@ -35,7 +35,7 @@ mod outcome;
 mod steps;
 
 pub use lines::{
-    lines_leave_memory, run_script_lines, scripts_place_sections_once, split_at_sections,
+    lines_keep_memory, run_script_lines, scripts_place_sections_once, split_at_sections,
 };
 pub use live::Live;
 pub use outcome::{Answer, Outcome};

@@ -92,7 +92,7 @@ pub fn split_at_sections(lines: &[Line]) -> (&[Line], &[Line])
 /// Law: a line of the early script leaves memory, the nodes of memory and the limit of allocations
 /// unchanged, whatever its outcome is. This is also true if this program runs out of memory during
 /// the line.
-pub fn lines_leave_memory()
+pub fn lines_keep_memory()
     ensures memory { (result : Result Outcome Memory) (old new : ScriptState) (bytes : ℕ
         → ℕ) (a : Act) →
         EndsAsLine result old new (act_effect old bytes a)

@@ -6,7 +6,7 @@ ghost use Rattle.std.specs.Prelude.{◌+◌, ◌^◌, ◌<◌};
 use crate::machines::{has_begun, machine};
 use crate::ranges::{Part, bytes};
 use boot_options::read_options;
-use crash_kernel::{Crash, CrashRule, reserve, reserve_by};
+use crash_kernel::{Crash, CrashRule, reserve, reserve_by_rule};
 use memblock_model::{Item, Owner};
 use std::alloc::Global;
 use std::process::Abort;
@@ -52,7 +52,7 @@ fn by_linux(alloc: Global, added: u64, line: &[u8]) -> Result<Crash, Fail>
     if !has_begun(&memblock) {
         return Err("items".into());
     }
-    let crash = reserve_by(
+    let crash = reserve_by_rule(
         &mut memblock,
         CrashRule::RoundedTotal,
         added,

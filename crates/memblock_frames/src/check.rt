@@ -23,7 +23,7 @@ fn head_has_room(head: &Head) -> bool
 }
 
 /// Tests whether the record isn't empty, begins at or above `from`, and ends at or below `bound`.
-fn follows_in_order(region: &Region, from: u64, bound: u64) -> bool
+fn is_nonempty_within(region: &Region, from: u64, bound: u64) -> bool
     ensures { IsTrue result ↔ (from ≤ region.now.base) × (0 < region.now.size)
         × (region.now.base + region.now.size ≤ bound) }
 {
@@ -54,7 +54,7 @@ pub fn has_records(store: &Store, head: &Head, bound: u64) -> bool
     let mut from = 0;
     for i in 0..head.count {
         let region = region_at(store, head, i);
-        if !follows_in_order(&region, from, bound) {
+        if !is_nonempty_within(&region, from, bound) {
             return false;
         }
         from = region.base + region.size;

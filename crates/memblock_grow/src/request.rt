@@ -24,10 +24,11 @@ use growth_model::{Refusal, Request};
 use memblock_find::{Mode, Query, find};
 use memblock_ranges::Tables;
 
-/// Returns the address that one search of the request finds, or `None`. It searches from address
-/// `lo` on, on `node` (or on any node if it is `None`), and only in mirrored memory if `mirror` is
-/// true. It finds the highest address at which the request fits, or the lowest if searches go
-/// upward.
+/// Searches once for a place for the request and returns its address, or `None` if nothing fits.
+/// The place begins at or above `lo`, and ends at or below the lower of the request's maximum and
+/// `aim.limit`. It is in memory of `node` (of any node if `None`), and in mirrored memory if
+/// `mirror` is true. Of the places that fit it is the highest, or the lowest if `aim.upward` is
+/// true.
 fn find_once(
     tables: &Tables,
     request: &Request,

@@ -13,8 +13,8 @@ pub enum Item {
     /// The bytes of the range become memory without a node (`memblock_add`). Bytes that are
     /// memory already keep their node.
     Mem { range: Range },
-    /// Each 4 KiB frame whose bytes aren't all memory of the same node and the same mirror flag
-    /// stops being memory (`memblock_trim_memory`).
+    /// Only whole 4 KiB frames stay memory: those whose bytes are all memory and have the same node
+    /// and the same mirror flag (`memblock_trim_memory`).
     Trim,
     /// The memory bytes of the range get the node (`memblock_set_node`). The number may be any u32,
     /// although a [`crate::Label`], which the memory table stores, has only numbers below 1,024.

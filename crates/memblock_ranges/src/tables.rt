@@ -225,8 +225,8 @@ impl Tables {
         }
     }
 
-    /// Gives the node, which must be below 1,024, to the memory of the range, which keeps its flags
-    /// (`memblock_set_node`). The memory table must have room for two more records.
+    /// Sets the node of all memory in the range; the memory keeps its flags (`memblock_set_node`).
+    /// `node` must be below 1,024. The memory table must have room for two more records.
     #[tactic(auto, using(crate::proofs::EditLaws::labels_tell))]
     pub fn set_node(&mut self, range: Range, node: u32)
         requires node { node < 1024 }

@@ -24,7 +24,7 @@ use Rattle.memblock_grow.specs.declared.stop.StageStop.TheVariants as stop
 use Rattle.stage_steps.specs.Causes.{StageCause, error_of_stage_cause}
 use Rattle.stage_steps.specs.Steps.{StageStep, EndsAsStage, fold_steps, view_of_result, return_value, read_items_allocating, ◌>>=◌}
 use Rattle.stage_steps.proofs.DoingLaws.{ends-first, ends-listed, ends-second, ends-wanting}
-use Rattle.numa_nodes.specs.Assignment.{NodesView, assign_nodes, assign_nodes_by, place_node_data, set_block_node, is_memory_byte, nodes_view_from_judgement, nodes_with_memory, node_ranges_by, node_ranges, place_data_of_nodes}
+use Rattle.numa_nodes.specs.Assignment.{NodesView, assign_nodes, assign_found_nodes, place_node_data, set_block_node, is_memory_byte, nodes_view_from_judgement, nodes_with_memory, node_ranges_by, node_ranges, place_data_of_nodes}
 use Rattle.numa_nodes.specs.Steps.{CanGetNodes}
 
 -- `ranges_in` is the list of ranges. The next definitions are the steps after it, and the steps
@@ -43,8 +43,8 @@ nodes_in items = nodes_with_memory (memory_of items)
 
 -- how the stage ends if this program runs out of memory before anything is written
 pub by-wanting : (items : List Item) (found : SratNodesView)
-    → EndsAsStage {A = NodesView} (assign_nodes_by found) error_of_stage_cause (Err stop.Memory) items items
-unfolding assign_nodes_by
+    → EndsAsStage {A = NodesView} (assign_found_nodes found) error_of_stage_cause (Err stop.Memory) items items
+unfolding assign_found_nodes
 by-wanting items found =
     ends-first stop.Memory error_of_stage_cause items items (read_items_allocating (ranges_in found)) (by_ranges found)
     (ends-wanting (ranges_in found) error_of_stage_cause items)
@@ -52,15 +52,15 @@ by-wanting items found =
 -- the stage ends as what follows the list of ranges
 by-listed : (r : Result NodesView StageStop) (old new : List Item) (found : SratNodesView)
     → EndsAsStage (by_ranges found (ranges_in found old)) error_of_stage_cause r old new
-    → EndsAsStage (assign_nodes_by found) error_of_stage_cause r old new
-unfolding assign_nodes_by
+    → EndsAsStage (assign_found_nodes found) error_of_stage_cause r old new
+unfolding assign_found_nodes
 by-listed r old new found rest =
     ends-second (ranges_in found old) r error_of_stage_cause old old new (read_items_allocating (ranges_in found)) (by_ranges found)
     (ends-listed (ranges_in found) error_of_stage_cause old) rest
 
 pub by-ranges : (e : StageStop) (old new : List Item) (found : SratNodesView)
     → EndsAsStage {A = Unit {0}} (fold_steps set_block_node tt (node_ranges (limit_of old) found)) error_of_stage_cause (Err e) old new
-    → EndsAsStage {A = NodesView} (assign_nodes_by found) error_of_stage_cause (Err e) old new
+    → EndsAsStage {A = NodesView} (assign_found_nodes found) error_of_stage_cause (Err e) old new
 by-ranges e old new found was =
     by-listed (Err e) old new found
     (ends-first e error_of_stage_cause old new (fold_steps set_block_node tt (ranges_in found old)) (after found) was)
@@ -70,13 +70,13 @@ module _ (old mid : List Item) (found : SratNodesView)
     (was : EndsAsStage {A = Unit {0}} (fold_steps set_block_node tt (node_ranges (limit_of old) found)) error_of_stage_cause
     (Ok tt) old mid) where
   by-after : (r : Result NodesView StageStop) (new : List Item) → EndsAsStage (after found tt) error_of_stage_cause r mid new
-      → EndsAsStage (assign_nodes_by found) error_of_stage_cause r old new
+      → EndsAsStage (assign_found_nodes found) error_of_stage_cause r old new
   by-after r new rest =
       by-listed r old new found
       (ends-second tt r error_of_stage_cause old mid new (fold_steps set_block_node tt (ranges_in found old)) (after found) was rest)
 
   -- this program runs out of memory for the list of nodes that have memory
-  pub data-wanting : EndsAsStage {A = NodesView} (assign_nodes_by found) error_of_stage_cause (Err stop.Memory) old mid
+  pub data-wanting : EndsAsStage {A = NodesView} (assign_found_nodes found) error_of_stage_cause (Err stop.Memory) old mid
   data-wanting =
       by-after (Err stop.Memory) mid
       (ends-first stop.Memory error_of_stage_cause mid mid (read_items_allocating nodes_in) (place_data_of_nodes found)
@@ -85,7 +85,7 @@ module _ (old mid : List Item) (found : SratNodesView)
   -- the data of those nodes is placed
   by-data : (r : Result NodesView StageStop) (new : List Item)
       → EndsAsStage (place_data_of_nodes found (nodes_in mid)) error_of_stage_cause r mid new
-      → EndsAsStage (assign_nodes_by found) error_of_stage_cause r old new
+      → EndsAsStage (assign_found_nodes found) error_of_stage_cause r old new
   by-data r new rest =
       by-after r new
       (ends-second (nodes_in mid) r error_of_stage_cause mid mid new (read_items_allocating nodes_in) (place_data_of_nodes found)
@@ -93,7 +93,7 @@ module _ (old mid : List Item) (found : SratNodesView)
 
   pub data-told : (r : Result (Unit {0}) StageStop) (new : List Item)
       → EndsAsStage (fold_steps place_node_data tt (nodes_with_memory (memory_of mid))) error_of_stage_cause r mid new
-      → EndsAsStage (assign_nodes_by found) error_of_stage_cause
+      → EndsAsStage (assign_found_nodes found) error_of_stage_cause
       (view_of_result (λ done. nodes_view_from_judgement found (nodes_with_memory (memory_of mid))) r) old new
   data-told (Ok done) new placed =
       by-data (Ok (nodes_view_from_judgement found (nodes_in mid))) new
@@ -107,7 +107,7 @@ module _ (old mid : List Item) (found : SratNodesView)
 
 -- the whole stage is the one after it has been decided whether the table is used
 pub assign_nodes-is : (table : Option SratView) (off : Bool) (items : List Item)
-    → assign_nodes table off items ≡ assign_nodes_by (judge_srat (is_memory_byte items) off table) items
+    → assign_nodes table off items ≡ assign_found_nodes (judge_srat (is_memory_byte items) off table) items
 unfolding assign_nodes
 assign_nodes-is table off items = refl
 

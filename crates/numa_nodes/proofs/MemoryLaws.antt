@@ -28,7 +28,7 @@ use Rattle.stage_steps.proofs.DoingLaws.{append_groups-append}
 use Rattle.stage_steps.proofs.QuietLaws.{quiet-appended_limit, quiet-appended_memory, quiet-bind, quiet-placed, quiet-returns, quiet-listed, quiet-turn}
 use Rattle.srat_nodes.specs.NodeAt.{NumaBlock}
 use Rattle.srat_nodes.specs.SratNodesView.{SratNodesView, judge_srat}
-use Rattle.numa_nodes.specs.Assignment.{NodesView, assign_nodes, assign_nodes_by, place_node_data, set_block_node, is_memory_byte, node_data_request, nodes_view_from_judgement, nodes_with_memory, node_ranges, place_data_of_nodes}
+use Rattle.numa_nodes.specs.Assignment.{NodesView, assign_nodes, assign_found_nodes, place_node_data, set_block_node, is_memory_byte, node_data_request, nodes_view_from_judgement, nodes_with_memory, node_ranges, place_data_of_nodes}
 use Rattle.numa_nodes.proofs.AssignLaws.{after}
 
 -- the growth of the memory table that may come before a range gets its node
@@ -143,7 +143,7 @@ module _ {V : Type 0} (seen_of : List Item → V)
   pub keeps-all : (table : Option SratView) (off : Bool) (items : List Item)
       → seen_of (items_after_step items (assign_nodes table off items))
       ≡ seen_of items
-  unfolding assign_nodes assign_nodes_by nodes_with_memory
+  unfolding assign_nodes assign_found_nodes nodes_with_memory
   keeps-all table off items =
       let found : SratNodesView = judge_srat (is_memory_byte items) off table in
       let ranges : List NumaBlock = node_ranges (limit_of items) found in
@@ -219,7 +219,7 @@ ended-by items found set_range_node d all answered =
 pub after-answer : (table : Option SratView) (off : Bool) (items : List Item) (set_range_node : NodesView)
     → (assign_nodes table off items).answer ≡ Ok set_range_node
     → IsBehind items (judge_srat (is_memory_byte items) off table) (items_after_step items (assign_nodes table off items)) set_range_node
-unfolding assign_nodes assign_nodes_by
+unfolding assign_nodes assign_found_nodes
 after-answer table off items set_range_node answered =
     let found : SratNodesView = judge_srat (is_memory_byte items) off table in
     let ranges : List NumaBlock = node_ranges (limit_of items) found in

@@ -86,8 +86,8 @@ abbrev pub place_data_of_nodes : SratNodesView → List ℕ → StageStep StageC
 place_data_of_nodes found nodes = fold_steps place_node_data tt nodes >>= λ done. return_value (nodes_view_from_judgement found nodes)
 
 -- the stage of the nodes after it has been decided (`found`) whether the table of domains is used
-unfoldable pub assign_nodes_by : SratNodesView → StageStep StageCause NodesView
-assign_nodes_by found =
+unfoldable pub assign_found_nodes : SratNodesView → StageStep StageCause NodesView
+assign_found_nodes found =
     read_items_allocating (λ items. node_ranges (limit_of items) found) >>= λ ranges. (fold_steps set_block_node tt ranges
     >>= λ done. (read_items_allocating (λ items. nodes_with_memory (memory_of items)) >>= λ nodes. place_data_of_nodes found nodes))
 
@@ -95,4 +95,4 @@ assign_nodes_by found =
 -- `off` is the option `numa=off`. Before the first range gets its node, the stage decides from the
 -- machine's memory whether the table is used.
 unfoldable pub assign_nodes : Option SratView → Bool → StageStep StageCause NodesView
-assign_nodes table off = read_items (λ items. judge_srat (is_memory_byte items) off table) >>= λ found. assign_nodes_by found
+assign_nodes table off = read_items (λ items. judge_srat (is_memory_byte items) off table) >>= λ found. assign_found_nodes found

@@ -11,7 +11,7 @@ ghost use Rattle.stage_steps.specs.Causes.{error_of_stage_cause};
 ghost use Rattle.stage_steps.specs.Steps.{EndsAsStage, fold_steps, view_of_result};
 ghost use Rattle.memblock_grow.specs.Continues.{ContinuesMemblock};
 ghost use Rattle.srat_nodes.specs.SratNodesView.{srat_nodes_view};
-ghost use Rattle.numa_nodes.specs.Assignment.{assign_nodes, assign_nodes_by, place_node_data, set_block_node, node_data_request, nodes_view, node_ranges};
+ghost use Rattle.numa_nodes.specs.Assignment.{assign_nodes, assign_found_nodes, place_node_data, set_block_node, node_data_request, nodes_view, node_ranges};
 ghost use Rattle.numa_nodes.specs.Steps.{CanGetNodes, KeepsContinuesMemblock};
 
 use crate::memory::{limit_of, memory_ranges, nodes_with_memory};
@@ -73,12 +73,11 @@ pub fn assign(
 {
     let memory = memory_ranges(alloc, &memblock.tables().records(Which::Memory))?;
     let found = judge_srat(alloc, &memory, srat, off)?;
-    assign_nodes_by(alloc, memblock, found)
+    assign_found_nodes(alloc, memblock, found)
 }
 
-/// Gives each byte of memory its node, and places the data of each node that has memory, after it
-/// has been decided whether the firmware's table of domains is used. `found` has this decision and,
-/// if the table is used, the ranges of each node.
+/// Gives each byte of memory its node, and places the data of each node that has memory. `found`
+/// says whether the firmware's table of domains is used and, if it is, has the ranges of each node.
 ///
 /// # Errors
 ///
@@ -87,7 +86,7 @@ pub fn assign(
 /// - `NoPlace` if no place fits the data of a node.
 /// - `NoTablePlace` if a table of memblock has to grow and no place is found for it.
 /// - `Memory` if this program is out of memory.
-fn assign_nodes_by(
+fn assign_found_nodes(
     alloc: Global,
     memblock: &mut Memblock,
     found: SratNodes,
@@ -95,7 +94,7 @@ fn assign_nodes_by(
     requires begun { HasFirstItem memblock.old.journal.items }
     requires ranges { CanGetNodes
         (node_ranges (limit_of memblock.old.journal.items) (srat_nodes_view found)) }
-    ensures ends { EndsAsStage (assign_nodes_by (srat_nodes_view found)) error_of_stage_cause
+    ensures ends { EndsAsStage (assign_found_nodes (srat_nodes_view found)) error_of_stage_cause
         (view_of_result nodes_view result)
         memblock.old.journal.items memblock.new.journal.items }
     ensures goes_on { KeepsContinuesMemblock memblock.old memblock.new }

@@ -127,7 +127,7 @@ impl Pages {
         Ok(PageOutcome::Done)
     }
 
-    /// Carries out a `pages` or `give` line. A `near` line must not be passed: the layer above
+    /// Carries out a `pages` or `give` line. A `near` line must not be passed: `slit_zonelists`
     /// carries it out, since it knows the zone lists.
     ///
     /// # Errors

@@ -65,7 +65,8 @@ is_flag options name = list_any (λ option. is_flag_action option.1 && bytes_eq 
 abbrev pub default_value : List OptionRow → ArgValues
 default_value options argument = if is_flag options argument then Some (codes "false") else None
 
--- the value of each argument on a command line with these spellings
+-- the value of each argument: that of its first spelling on the command line, or its default if
+-- it isn't spelled there
 abbrev pub spelled_values : List OptionRow → List Spelling → ArgValues
 spelled_values options ss argument = option_or (first_spelled_value ss argument) (default_value options argument)
 

@@ -52,7 +52,7 @@ FitsFailure program (failures.Output refusal) said = IsOkAnd said (λ result. Un
 abbrev pub IsFaulty : {I F C A : Type 0} → Result A (Reason I F C) → Type 0
 IsFaulty {I} {F} said = (input : I) × ((fault : F) × (said ≡ Err (reasons.Faulty input fault)))
 
--- the outcome is that files without a fault give no result, for some cause
+-- the boot was stopped: no file has a fault, but for some cause there is no result
 abbrev pub IsStopped : {I F C A : Type 0} → Result A (Reason I F C) → Type 0
 IsStopped {I} {F} {C} said = (cause : C) × (said ≡ Err (reasons.Stopped cause))
 

@@ -7,8 +7,8 @@ use Rattle.program_end.specs.declared.failure.NoResult.TheVariants as errors
 use Rattle.program_end.specs.declared.failure.Reason.{Reason}
 use Rattle.program_end.specs.declared.failure.Reason.TheVariants as reasons
 
--- a call with this outcome reads the file of `input`: the command line is accepted, and no file
--- that is read before it is missing or has a fault
+-- a call with this outcome gets as far as the file of `input`: the command line is accepted, and
+-- every file before it was read without a fault
 abbrev pub ReachesFile : {I F C A : Type 0} → (I → ℕ) → I → Result A (Reason I F C) → Type 0
 ReachesFile place input (Ok value) = Unit {0}
 ReachesFile place input (Err reasons.Usage) = ⊥

@@ -31,7 +31,8 @@ pub fn put_options(text: &mut Vec<u8>, options: &Options) -> Result<(), Memory>
     put_efi_line(text, options.add_efi)
 }
 
-/// Appends the line of an edit of the map. `index` isn't printed.
+/// Appends the line of an edit of the map. `index` is unused; [`put_indexed_lines`] passes it to
+/// each function that appends a line.
 fn put_edit_line(text: &mut Vec<u8>, index: u64, edit: &Edit) -> Result<(), Memory>
     ensures { PutsText text.old text.new result (edit_line index edit.now) }
 {

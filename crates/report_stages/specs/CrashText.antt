@@ -11,8 +11,9 @@ abbrev pub crash_low_line : Option RangeView → List ℕ
 crash_low_line None = []
 crash_low_line (Some low) = codes "crash low " ++ range_text low ++ codes "\n"
 
--- the report `crash`: a line with the range of the area, and one with its low part; or a line with
--- the reason why there is no area
+-- the report `crash`: a line with the range of the area, and then a line with the separate range
+-- below 4 GiB, if there is one. Without an area one line says why: `none` if none was requested, or
+-- what failed.
 abbrev pub crash_text : Crash → List ℕ
 crash_text crash.Nothing = codes "crash none\n"
 crash_text (crash.At main low) = codes "crash at " ++ range_text main ++ codes "\n" ++ crash_low_line low

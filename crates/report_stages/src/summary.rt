@@ -35,8 +35,9 @@ pub struct Summary {
     pub blocks: u64,
 }
 
-/// Appends the report `summary`: six lines, for the runs of the map, the usable frames, the frames
-/// in free blocks, memblock's two tables, and the free blocks.
+/// Appends the report `summary`. Its six lines have the number of runs of the map, of usable frames
+/// and of frames in free blocks; the records and the room of `memblock.memory`, and those of
+/// `memblock.reserved`; and the number of free blocks.
 ///
 /// # Errors
 ///

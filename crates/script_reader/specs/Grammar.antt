@@ -35,7 +35,7 @@ pub record Grammar (A : Type 0) : Type 1 where
   pub HasNumbers : Form → Type 0
   pub act_of : Form → A
 
--- the words have a form
+-- the words are those of some form of the grammar
 abbrev pub HasLineForm : {A : Type 0} → Grammar A → Words → Type 0
 HasLineForm grammar words = (form : grammar.Form) × (words ≡ grammar.words_of form)
 

@@ -16,8 +16,8 @@ abbrev pub is_comment : List ℕ → Bool
 is_comment [] = false
 is_comment (b ∷ bs) = b == 35
 
--- the act that the words of a line spell: `forms` gives it for the first word and the words after
--- it. None for a line without words, and for a comment.
+-- the act of a line with these words: `forms name words`, where `name` is the first word and
+-- `words` are the others. None for a line without words, and for a comment.
 abbrev pub act_by_forms : {A : Type 0} → (List ℕ → Words → Result A ScriptLineFault) → Words → Result (Option A) ScriptLineFault
 act_by_forms forms [] = Ok None
 act_by_forms forms (name ∷ words) = if is_comment name then Ok None else (do

@@ -18,10 +18,10 @@ ghost use Rattle.sparse_sections.specs.Present.{present, IsWholeFramesWithNode, 
 ghost use Rattle.sparse_sections.specs.Roots.{root_of, first_of_each_root, place_roots};
 
 /// Law: once memory has its nodes, the records of the memory table are the runs of memory (ranges
-/// of one label). They give each byte the label that the journal's items give it. All of them are
-/// whole frames. If memory also ends at or below 4 PiB, [`crate::present`] can find sections in
-/// them.
-pub fn memory_with_nodes_is_whole_frames()
+/// of one label), and all of them are whole frames. They give each byte the label that the
+/// journal's items give it. If memory also ends at or below 4 PiB, [`crate::present`] can find
+/// sections in them.
+pub fn records_are_runs_of_whole_frames()
     ensures runs { (limit : ℕ) (items : List AnyItem) → limit ≤ 2 ^ 64
         → IsMemoryWithNodes limit (memory_of items) →
         IsRunsOf (memory_of items) (records_of which.Memory items) }

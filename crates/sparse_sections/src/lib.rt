@@ -23,8 +23,8 @@ mod places;
 mod sections;
 
 pub use laws::{
-    memory_with_nodes_is_whole_frames, place_roots_keeps_memory_and_limit,
-    present_sections_are_memory, present_sections_ascend, roots_ascend,
+    place_roots_keeps_memory_and_limit, present_sections_are_memory, present_sections_ascend,
+    records_are_runs_of_whole_frames, roots_ascend,
 };
 pub use places::{RootPlace, Roots, place_roots};
 pub use sections::present;

@@ -79,8 +79,9 @@ nodes_overlap a b = not (a.block.value == b.block.value) && block_meets a.block.
 abbrev pub numbers_overlap : List KeptBlock → ℕ → ℕ → Bool
 numbers_overlap kept i j = nat_lt i j && list_any (λ a. (a.number == i) && list_any (λ b. (b.number == j) && nodes_overlap a b) kept) kept
 
--- the numbers of the first kept block that shares an address with a later one of another node, and
--- of the first such later one; None if there are no such blocks
+-- the first two kept blocks of different nodes that share an address, as their numbers (i, j): i is
+-- the first block that overlaps a later one, and j the first later one that it overlaps. None if
+-- no two do.
 abbrev pub first_overlap : List KeptBlock → Option (ℕ × ℕ)
 first_overlap [] = None
 first_overlap (a ∷ rest) =

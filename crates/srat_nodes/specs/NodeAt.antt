@@ -44,8 +44,9 @@ abbrev pub first_node_among : List NumaBlock → ℕ → List NumaBlock → Opti
 first_node_among blocks x [] = None
 first_node_among blocks x (b ∷ bs) = if belongs_to_node blocks b.value x then Some b.value else first_node_among blocks x bs
 
--- the node of an address: the first one that the address belongs to, in the order of the blocks, or
--- None. If blocks of different nodes share no address, there is at most one.
+-- the node of an address: the node of the first block to whose node the address belongs
+-- (`belongs_to_node`), or None. If blocks of different nodes share no address, an address belongs
+-- to at most one node.
 unfoldable pub node_at : List NumaBlock → ℕ → Option ℕ
 node_at blocks x = first_node_among blocks x blocks
 

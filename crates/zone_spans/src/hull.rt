@@ -38,19 +38,19 @@ pub fn hull_spans_in_slots(alloc: Global, slots: &[Option<Span>]) -> Result<Vec<
         let dma = slot_at(slots, first);
         let dma32 = slot_at(slots, first + 1);
         let normal = slot_at(slots, first + 2);
-        add_hull_spans(&mut spans, node, dma, dma32, normal)?;
+        add_zone_parts_of_hull(&mut spans, node, dma, dma32, normal)?;
     }
     Ok(spans)
 }
 
-/// Appends the spans of the node's zones by the node's hull. `dma`, `dma32` and `normal` are its
-/// slots: the span from its first frame in that zone to its last, or `None` if it has no frame
-/// there.
+/// Appends, for each zone, the part of the node's hull that lies in it, if there is one. `dma`,
+/// `dma32` and `normal` give the hull and the numbers of frames: each is the span from the node's
+/// first frame in that zone to its last, or `None` if it has no frame there.
 ///
 /// # Errors
 ///
 /// - `Memory`: the program ran out of memory.
-fn add_hull_spans(
+fn add_zone_parts_of_hull(
     spans: &mut Vec<Span>,
     node: u32,
     dma: Option<Span>,

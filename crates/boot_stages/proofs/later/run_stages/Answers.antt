@@ -84,7 +84,7 @@ row4 : (c : In_ok-crash) → Behind (extra_view c.args.extra.now) (inputs_view c
     c.assign.new.memblock c.run_script_lines.new.live []
     → Behind (extra_view c.args.extra.now) (inputs_view c.args.inputs.now) c.args.map.now 4
     (with_crash (inputs_view c.args.inputs.now) c.args.map.now c.run_script_lines.new.answers.items c.in_ok-nodes.nodes c.in_ok-crash.crash)
-    c.reserve_by.new.memblock c.run_script_lines.new.live []
+    c.reserve_by_rule.new.memblock c.run_script_lines.new.live []
 row4 c row =
     let inputs : InputsView = inputs_view c.args.inputs.now in
     let profile = c.args.extra.now.profile in
@@ -98,7 +98,7 @@ row4 c row =
 
 row5 : (c : In_ok-run_script_lines-2) → Behind (extra_view c.args.extra.now) (inputs_view c.args.inputs.now) c.args.map.now 4
     (with_crash (inputs_view c.args.inputs.now) c.args.map.now c.run_script_lines.new.answers.items c.in_ok-nodes.nodes c.in_ok-crash.crash)
-    c.reserve_by.new.memblock c.run_script_lines.new.live []
+    c.reserve_by_rule.new.memblock c.run_script_lines.new.live []
     → Behind (extra_view c.args.extra.now) (inputs_view c.args.inputs.now) c.args.map.now 5
     (with_crash (inputs_view c.args.inputs.now) c.args.map.now c.run_script_lines.new.answers.items c.in_ok-nodes.nodes c.in_ok-crash.crash)
     c.run_script_lines-2.new.mb c.run_script_lines-2.new.live c.run_script_lines-2.new.answers.items
@@ -195,8 +195,8 @@ assign-requires-clause-limit c =
     let row = row2 at.In_ok-run_script_lines (row1 at.In_ok-make_memory) in
     (claimed_known inputs (extra_view c.args.extra.now).claims (with_map inputs c.args.map.now) _ c.requires.judged row.come).some
 
-pub reserve_by-requires : goal.reserve_by-requires
-reserve_by-requires c =
+pub reserve_by_rule-requires : goal.reserve_by_rule-requires
+reserve_by_rule-requires c =
     let inputs : InputsView = inputs_view c.args.inputs.now in
     record {
       begun = ends-begun (Ok (nodes_view c.in_ok-nodes.nodes)) error_of_stage_cause c.run_script_lines.new.mb.journal.items _

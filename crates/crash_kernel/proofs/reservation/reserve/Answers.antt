@@ -5,8 +5,8 @@ use Rattle.crash_kernel.proofs.reservation.reserve.Goals as goal
 
 pub returns-clause-ends : goal.returns-clause-ends
 unfolding reserve_crash_area reserve_crash_area_by request_by
-returns-clause-ends c = c.reserve_by.ensures.ends
+returns-clause-ends c = c.reserve_by_rule.ensures.ends
 
 pub returns-clause-idle : goal.returns-clause-idle
 unfolding reserve_crash_area reserve_crash_area_by request_by
-returns-clause-idle c = c.reserve_by.ensures.idle
+returns-clause-idle c = c.reserve_by_rule.ensures.idle

@@ -7,15 +7,15 @@ use Rattle.memblock_frames.proofs.RecordLaws.{records_higher}
 use Rattle.memblock_frames.proofs.CheckLaws.{left_from, one_in_place, out_of_place, all_in_place}
 use Rattle.memblock_frames.proofs.check.has_records.Goals as goal
 
-pub returns-then-not-follows_in_order-clause-list : goal.returns-then-not-follows_in_order-clause-list
-returns-then-not-follows_in_order-clause-list c =
+pub returns-then-not-is_nonempty_within-clause-list : goal.returns-then-not-is_nonempty_within-clause-list
+returns-then-not-is_nonempty_within-clause-list c =
     let rs = records_of_head c.args.store.now c.args.head.now in
     let i = c.loop-i.i in
     let left = left_from c.args.store.now c.args.head.now i c.region_at-region.result c.loop-i-test.true c.region_at-region.ensures in (
       (λ never. absurd (false≢true never)),
       (λ known.
           absurd (out_of_place c.args.bound c.loop-i.from i rs (drop (i + 1) rs) left.0 c.loop-i.invariant left.1
-          (λ above some low. false≢true (c.if-not-follows_in_order.ensures.1 (omega arith, omega arith, omega arith)))
+          (λ above some low. false≢true (c.if-not-is_nonempty_within.ensures.1 (omega arith, omega arith, omega arith)))
           known.ascend)),
     )
 
@@ -24,7 +24,7 @@ loop-i-preserved c =
     let rs = records_of_head c.args.store.now c.args.head.now in
     let i = c.loop-i.i in
     let left = left_from c.args.store.now c.args.head.now i c.region_at-region.result c.loop-i-test.true c.region_at-region.ensures in
-    let facts = c.if-not-follows_in_order.ensures.0 refl in
+    let facts = c.if-not-is_nonempty_within.ensures.0 refl in
     one_in_place c.args.bound c.loop-i.from i _ rs (drop (i + 1) rs) left.0 c.loop-i.invariant left.1
     (omega arith) (omega arith) (omega arith) (omega arith)
 

@@ -23,8 +23,8 @@ returns-in_err-found-clause-ends c =
     let p = err_from_is_err_and c.from_residual-in_err-found.result c.from_residual-in_err-found.ensures.1 in
     rw (p.1, p.2, assign_nodes-is table c.args.off items) (by-wanting items (judge_srat (is_memory_byte items) c.args.off table))
 
-pub assign_nodes_by-requires-clause-ranges : goal.assign_nodes_by-requires-clause-ranges
-assign_nodes_by-requires-clause-ranges c =
+pub assign_found_nodes-requires-clause-ranges : goal.assign_found_nodes-requires-clause-ranges
+assign_found_nodes-requires-clause-ranges c =
     can-get (limit_of c.args.memblock.now.journal.items) (srat_nodes_view c.in_ok-found.found)
     (is_in_any_range c.deref.result.now) c.args.off
     (option_map srat_view (option_copied c.args.srat)) c.requires.limit c.in_ok-found.ensures.value
@@ -41,7 +41,7 @@ returns-clause-ends c =
       ← memory,
       ← c.deref.ensures.value,
       ← c.in_ok-found.ensures.value,
-    ) c.assign_nodes_by.ensures.ends
+    ) c.assign_found_nodes.ensures.ends
 
 pub returns-clause-goes_on : goal.returns-clause-goes_on
-returns-clause-goes_on c = c.assign_nodes_by.ensures.goes_on c.args.memblock.now c.tables.ensures.still
+returns-clause-goes_on c = c.assign_found_nodes.ensures.goes_on c.args.memblock.now c.tables.ensures.still

@@ -16,7 +16,7 @@ loop-node-preserved c f told =
     let dma32 : c.slot_at-dma32.result ≡ span_of f n zone.Dma32 = c.slot_at-dma32.ensures ∙ told n zone.Dma32 in
     let normal : c.slot_at-normal.result ≡ span_of f n zone.Normal = c.slot_at-normal.ensures ∙ told n zone.Normal in
     let same = hull_spans_by_slots f n _ _ _ dma dma32 normal in
-    rw (c.in_ok-add_hull_spans.ensures, same)
+    rw (c.in_ok-add_zone_parts_of_hull.ensures, same)
     (sym (hull_spans_more f n c.loop-node.spans.items c.loop-node-test.true) ∙ c.loop-node.invariant f told)
 
 pub returns : goal.returns

@@ -1,7 +1,7 @@
 use Rattle.boot_model.specs.Boot.{no_extra}
 use Rattle.conservation.proofs.MapLaws.{usable_mapped}
 use Rattle.conservation.proofs.ToldLaws.{own_told}
-use Rattle.conservation.proofs.laws.map_determines_usable_frames.Goals as goal
+use Rattle.conservation.proofs.laws.usable_frames_are_ram_below_limit.Goals as goal
 
 pub returns : goal.returns
 returns c = record {

@@ -1,7 +1,7 @@
 -- A line writes only claims, frees and moves of tables.
 use Rattle.early_script.specs.Effects.{act_effect}
 use Rattle.early_script.proofs.QuietLaws.{act_effect-quiet, acts-memory, acts-limit}
-use Rattle.early_script.proofs.lines.lines_leave_memory.Goals as goal
+use Rattle.early_script.proofs.lines.lines_keep_memory.Goals as goal
 
 pub returns-clause-memory : goal.returns-clause-memory
 returns-clause-memory c =

@@ -13,8 +13,8 @@ use Rattle.crash_kernel.specs.Places.{low_size, needs_low_part}
 use Rattle.crash_kernel.specs.Reservation.{reserve_low_part, reserve_crash_area_by, claim_area}
 use Rattle.crash_kernel.proofs.TotalLaws.{records-bytes}
 use Rattle.crash_kernel.proofs.ReservedLaws.{area-at, claim-writes, idle-ok, main-at, main-fails, main-then}
-use Rattle.crash_kernel.proofs.reservation.reserve_by.Goals as goal
-use Rattle.crash_kernel.proofs.reservation.reserve_by.Goals.{After-total_memory-total, In-Some-main_range}
+use Rattle.crash_kernel.proofs.reservation.reserve_by_rule.Goals as goal
+use Rattle.crash_kernel.proofs.reservation.reserve_by_rule.Goals.{After-total_memory-total, In-Some-main_range}
 
 -- the total of the memory table is that of the items
 total_is : (c : After-total_memory-total) → c.total_memory-total.result ≡ memory_bytes (memory_of c.args.memblock.now.journal.items)

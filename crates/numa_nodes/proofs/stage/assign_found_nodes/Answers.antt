@@ -8,8 +8,8 @@ use Rattle.stage_steps.specs.Steps.{fold_steps}
 use Rattle.stage_steps.proofs.DoingLaws.{ends-begun}
 use Rattle.numa_nodes.specs.Assignment.{set_block_node, nodes_with_memory, node_ranges}
 use Rattle.numa_nodes.proofs.AssignLaws.{by-ranges, by-wanting, data-told, data-wanting, records-tell}
-use Rattle.numa_nodes.proofs.stage.assign_nodes_by.Goals as goal
-use Rattle.numa_nodes.proofs.stage.assign_nodes_by.Goals.{After-deref, After-deref-2}
+use Rattle.numa_nodes.proofs.stage.assign_found_nodes.Goals as goal
+use Rattle.numa_nodes.proofs.stage.assign_found_nodes.Goals.{After-deref, After-deref-2}
 
 -- the ranges are those of the judgement, below the limit of the journal
 ranges : (c : After-deref) → c.deref.result.now ≡ node_ranges (limit_of c.args.memblock.now.journal.items) (srat_nodes_view c.args.found)
