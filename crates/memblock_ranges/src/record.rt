@@ -72,28 +72,29 @@ fn encode_fields(base: u64, size: u64, flags: u32, node: u32) -> [u8; 24]
     bytes
 }
 
-/// Encodes the record in 24 bytes, from which it can be decoded again.
-pub fn encode_record(record: &Record) -> [u8; 24]
-    ensures bytes { result ≡ encode_record record.now }
-    ensures fits { FitsRecord record.now }
+/// Encodes the record `run` in 24 bytes, from which it can be decoded again.
+pub fn encode_record(run: &Record) -> [u8; 24]
+    ensures bytes { result ≡ encode_record run.now }
+    ensures fits { FitsRecord run.now }
 {
     encode_fields(
-        record.range.base,
-        record.range.size,
-        record.value.flags(),
-        node_field(record.value),
+        run.range.base,
+        run.range.size,
+        run.value.flags(),
+        node_field(run.value),
     )
 }
 
-/// Returns the four fields of the record as plain numbers. The record can be computed from them.
-pub fn region_of(record: &Record) -> Region
-    ensures region { result ≡ region_of record.now }
-    ensures fits { FitsRecord record.now }
+/// Returns the four fields of the record `run` as plain numbers. The record can be computed from
+/// them.
+pub fn region_of(run: &Record) -> Region
+    ensures region { result ≡ region_of run.now }
+    ensures fits { FitsRecord run.now }
 {
     Region {
-        base: record.range.base,
-        size: record.range.size,
-        flags: record.value.flags(),
-        node: node_field(record.value),
+        base: run.range.base,
+        size: run.range.size,
+        flags: run.value.flags(),
+        node: node_field(run.value),
     }
 }
