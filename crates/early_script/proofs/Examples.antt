@@ -1,5 +1,5 @@
 -- Examples: two live IDs in a small machine, and what each act does with them.
-use Rattle.std.proofs.Common.{◌≡◌, ◌++◌, true, false, Some, None, List, [], ◌∷◌, length, refl, sym, ap, subst, arith, inl, inr, length-append}
+use Rattle.std.proofs.Common.{◌≡◌, ℕ, ◌++◌, true, false, Some, None, List, [], ◌∷◌, length, refl, sym, ap, subst, arith, inl, inr, length-append}
 use Rattle.std.proofs.lemmas.Bool.{true≢false}
 use Rattle.bm_base.specs.Range.{RangeView}
 use Rattle.bm_base.specs.Each.{each_from, each_in}
