@@ -1,9 +1,9 @@
 #!/usr/bin/env python3
-"""audit.py [ROUNDS]: how long ./bootaudit takes, and how much memory, over great reports; the least of so many rounds, 7 if no number is given.
+"""audit.py [ROUNDS]: measures the time and memory of ./bootaudit over large reports: the minimum of ROUNDS rounds (7 by default).
 
-The reports are made here: a machine of so much RAM from 1 MiB on, whose frames are all free, so that its blocks are those that a boot tells of it; and one of
-whose frames every second one has an owner. The program is the one that `make bootaudit` builds. Prints a line for each: what, the bytes
-of the reports, the seconds by the clock and of a processor, bytes a second by the clock, and the memory that the process had.
+The script generates the reports of two kinds of machine, with RAM from 1 MiB on. In the first all frames are free, in the blocks that a boot
+reports. In the second every other frame has an owner. The program is the one that `make bootaudit` builds. Prints a line for each machine: its
+name, the bytes of the reports, the wall-clock and processor seconds, bytes per wall-clock second, and the process's peak memory.
 """
 
 import os
@@ -24,7 +24,7 @@ def zone(at):
 
 
 def free_machine(room, size):
-    """RAM from 1 MiB up to that size, all of it free: blocks of 4 MiB behind three smaller ones."""
+    """RAM from 1 MiB up to that size, all of it free: two smaller blocks, then blocks of 4 MiB."""
     with open(f"{room}/map", "w", encoding="ascii") as file:
         file.write(f"0x{MIB:016x}..0x{size - 1:016x} 1 usable\n")
     open(f"{room}/owners", "w", encoding="ascii").close()
@@ -46,7 +46,7 @@ def owned_machine(room, owners):
 
 
 def measure(room, rounds):
-    """The least seconds of so many rounds, by the clock and of a processor, and the most KiB that a process had."""
+    """The least wall-clock and processor seconds of the rounds, and the peak KiB of a process."""
     clock, processor, memory = [], [], 0
     for _ in range(rounds):
         start = time.monotonic()
@@ -65,7 +65,7 @@ def measure(room, rounds):
 def main():
     rounds = int(sys.argv[1]) if len(sys.argv) > 1 else 7
     rows = [(f"{size // TIB} TiB, free", free_machine, size) for size in (2 * TIB, 4 * TIB, 8 * TIB, 16 * TIB)]
-    rows += [(f"{owners} owners, a free frame behind each", owned_machine, owners) for owners in (250_000, 500_000, 1_000_000)]
+    rows += [(f"{owners} owners, a free frame after each", owned_machine, owners) for owners in (250_000, 500_000, 1_000_000)]
     for what, make, size in rows:
         with tempfile.TemporaryDirectory() as room:
             make(room, size)

@@ -1,11 +1,11 @@
 #!/usr/bin/env python3
-"""What a whole boot costs where much is asked of it: runs ./bootmem over generated inputs and prints a table of costs.
+"""What a whole boot costs on large inputs: runs ./bootmem over generated inputs and prints a table of costs.
 
 usage: bench/boot.py [ROUNDS] [PROGRAM]
 
-In each round the program runs once on every input, in no fixed order; of each the least time counts, once from its start to its end
-and once as the processor's time, which other programs disturb less. A cost is such a time, or what one input takes beyond another.
-Before the rounds each text is looked at: it must have the lines that it has where nothing is refused.
+In each round the program runs once on every input, in random order. For each input the least elapsed time and the least processor
+time count; other programs disturb the latter less. A cost is such a time, or the difference between the times of two inputs.
+Before the rounds each output is checked: its number of lines must show that no request was refused.
 
 script lines  over 64 GiB in one run of memory. `reserve`: pages with a page between, in no order; `alloc`: pages, each below the last;
               `alloc, free`: a page is allocated and freed in turn.
@@ -15,8 +15,8 @@ domains       3,000 runs of memory with gaps between, mostly of 4 MiB, and an SR
               over one run or two. `apart`: the two blocks of a domain have those of all others between them, and the table is in no
               order; `together`: they lie side by side, and the table is in order.
 16 TiB        in one run: 131,072 sections and 4.1 million free blocks, whose lines go to a file, as those of `cat` do.
-single maps   in the same memory, of which a crash area leaves 255 GiB above 4 GiB: too little for the 131,072 maps in one piece, so each is
-              placed alone, right below the last, and has an owner of its own.
+single maps   in the same memory. A crash area leaves 255 GiB above 4 GiB: too little for the 131,072 maps in one piece, so each is
+              placed alone, right below the last, and has its own owner.
 3,000 runs    the same without an SRAT.
 """
 import os

@@ -4,16 +4,16 @@
 usage: bench/calls.py
 
 It proves and builds bench/calls.main.txt as a program over a copy of the crates, in a folder of its own, which takes some minutes, and
-prints the microseconds of one call: the least time of several runs less that of as many with no round. `claims`: as many pages are
-claimed in no order, from a machine's start on, so that the reserved table doubles on the way; `allocs`: as many are allocated from
-above, each below a maximum that lies a page below the last; `half`: the page of the middle is freed and claimed; `first`: a page is
-allocated right below memory's end and freed; `last`: two pages that only the memory below all claims has are allocated and freed.
+prints the microseconds of one call: the least time of several runs, less the least time of runs without a round. `claims`: that many
+pages are claimed in scattered order, starting with a fresh machine, so that the reserved table doubles several times; `allocs`: that many
+are allocated top down, each below a maximum one page below the last; `half`: the page in the middle is freed and claimed; `first`: a
+page is allocated right below memory's end and freed; `last`: two pages are allocated and freed that fit only below all claims.
 """
 import tempfile
 
 from memblock import CRATES, build, least_time, write_crates
 
-# What one round calls, for so many pages, and how many calls are counted in all.
+# The number of calls in one round, by the number of pages, and the number of calls in all rounds.
 KINDS = {"claims": (lambda count: count, 200000), "allocs": (lambda count: count, 200000), "half": (lambda count: 2, 20000),
          "first": (lambda count: 2, 200000), "last": (lambda count: 2, 2000)}
 

@@ -1,6 +1,6 @@
 #!/usr/bin/env python3
-"""command.py PREFIX [ROUNDS]: what the installed command `bootmem` under PREFIX costs beyond the program that it starts: the least mean of 100 runs
-each of the program in libexec and of the command, in milliseconds."""
+"""command.py PREFIX [ROUNDS]: measures how much longer the installed command `bootmem` under PREFIX takes than the program that it starts. Runs the
+program in libexec and the command 100 times per round, and prints the least mean of each, in milliseconds."""
 
 import os
 import subprocess

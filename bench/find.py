@@ -4,11 +4,11 @@
 usage: bench/find.py
 
 It proves and builds bench/find.main.txt as a program over a copy of the crates, in a folder of its own, and prints the nanoseconds of
-one call: the least time of several runs less that of as many with no round. `first`: a page, which the gap right below memory's end
-has; `last`: two pages, which only the memory below all claims has; `low`: a page, from below, where the first
-gap has it; `none`: two pages from the first claim up, which no gap has; `walk`: a run of unclaimed memory by `next_free`, or by `prev_free`,
-going over them all. The program is linked four times, its code 16 bytes further on each time, and the least of them counts: where a loop
-of few instructions lies tells for as much as a third of its time, and says nothing of the search.
+one call: the least time of several runs, less the least time of runs without a round. `first`: a page, which fits the gap right below
+memory's end; `last`: two pages, which fit only below all claims; `low`: a page, searched bottom up, which fits the first
+gap; `none`: two pages from the first claim up, which fit no gap; `walk`: one step of `next_free` or `prev_free` in a walk over all runs
+of unclaimed memory. The program is linked four times, its code 16 bytes further on each time, and the fastest counts: the alignment of a
+short loop changes its time by up to a third, whatever the search does.
 """
 import os
 import subprocess
@@ -21,7 +21,7 @@ ROUNDS = {"first": 3000000, "last": 3000, "low": 3000000, "none": 3000, "walk": 
 
 
 def placed(folder):
-    """The program at four places."""
+    """Links the program with its code at four offsets; returns the paths."""
     program, files = build_from(folder, "find", "first")
     programs = []
     for place in range(4):

@@ -1,13 +1,13 @@
 #!/usr/bin/env python3
 """gate.py [COMMAND..]: what the gate costs, crate by crate.
 
-Runs the command, .ci/run if none is given, with what it prints on standard error, and sums the processor time of the prover's
-processes that it starts, as /proc tells it four times a second (Linux alone). What a process uses behind the last look at it is
-lost, so the sums are a little low; the last line has the whole as the system counts it, and the clock. Prints a table in minutes
-of a processor: of each crate its proof, its tests, and how many wrong bodies it has and what these cost, with the proof over
-which they are tried. It ends with the command's status.
+Runs the command (default: .ci/run), sends its output to standard error, and sums the processor time of the prover's processes
+that it starts, read from /proc four times a second (Linux only). The time that a process uses after its last sample is lost, so
+the sums are a little low; the last line has the system's own total, and the elapsed time. Prints a table in processor minutes:
+for each crate its proof, its tests, the number of its wrong bodies, and their cost, including the proof over which they are
+tried. Exits with the command's status.
 
-What runs beside it isn't counted, and makes it dearer. Where a crate was kept by an earlier run, the figures say little.
+Other programs that run meanwhile aren't counted, but raise the times. If an earlier run left a crate's results, its figures say little.
 """
 
 import glob
@@ -25,14 +25,14 @@ TOP = os.path.join(os.path.dirname(os.path.abspath(__file__)), "..")
 
 
 def kind_of(words, folder):
-    """What a process of the prover is for, by its words and the folder that it works in."""
+    """The purpose of a prover process, by its command line and working directory."""
     if "/rt-edit" in words or "/rt-edit" in folder:
         return "their cost"
     return "its tests" if " --test" in words else "its proof"
 
 
 def processes():
-    """The words, the folder and the fields of /proc/NUMBER/stat behind the name of each process that there is, by its number."""
+    """Each process's command line, working directory, and the fields of /proc/PID/stat after the name, by its number."""
     found = {}
     for number in filter(str.isdigit, os.listdir("/proc")):
         try:
@@ -46,14 +46,14 @@ def processes():
 
 
 def is_below(number, top, found):
-    """Whether the process was started by the one whose number is top, or by one that was."""
+    """Whether the process is top or a descendant of it."""
     while number in found and number != top:
         number = found[number][2][1]
     return number == top
 
 
 def look(used, top):
-    """Notes the processor time, in seconds, of each process of the prover below top, by its number and its start."""
+    """Records the processor seconds of each prover process below top, by its number and start time."""
     found = processes()
     for number, (words, folder, fields) in found.items():
         crate = CRATE.search(words)

@@ -1,8 +1,8 @@
 #!/usr/bin/env python3
-"""library.py [PROGRAM]: boots a second through libbootmem.so beside processes a second, for some machines of examples/. Run by hand, at the top.
+"""library.py [PROGRAM]: boots per second through libbootmem.so and as processes, for some machines of examples/. Run by hand, at the top.
 
-A call is bootmem_run from one thread of Python, which adds what ctypes takes; a process is the program, started and waited for. Each is asked for `map` and
-for `buddyinfo`, one warm run and then as many as fit into two seconds.
+A call is bootmem_run from one thread of Python, including the overhead of ctypes; a process is the program, started and waited for. Both print `map` and
+`buddyinfo`: one warm-up run, then all runs that fit into two seconds.
 """
 
 import os
@@ -20,7 +20,7 @@ MACHINES = ["first", "q35-1g", "q35-8g-numa2", "q35-20g-numa4"]
 
 
 def rate(run):
-    """How often a second."""
+    """Runs per second."""
     run()
     count, begun = 0, time.monotonic()
     while time.monotonic() - begun < 2:

@@ -1,10 +1,10 @@
 #!/usr/bin/env python3
-"""What the lists of all nodes cost on a machine of 1,024 nodes of three zones, and 10,000 lines near a node beside as many that name a zone.
+"""What the lists of all nodes cost on a machine of 1,024 nodes of three zones, and 10,000 lines near a node or naming a zone.
 
 usage: bench/lists.py
 
 It proves and builds bench/lists.main.txt as a program over a copy of the crates, in a folder of its own, and prints milliseconds: the least
-time of several runs with some rounds less that of as many with none.
+time of several runs with rounds, less the least time of runs without.
 """
 import tempfile
 

@@ -1,18 +1,18 @@
 #!/usr/bin/env python3
-"""What the map costs over 800 and over 3,200 entries, and over 6,553 and 26,214 descriptors of an EFI memory map, which are as many as its
-file has room for, without what is in front of it and behind it.
+"""What the map costs over 800 and over 3,200 entries, and over 6,553 and 26,214 descriptors of an EFI memory map, the most that its
+file has room for, without what is before and after it.
 
 usage: bench/map.py [RUNS]
 
 It proves and builds bench/map.main.txt as a program over a copy of the crates of the map, in a folder of its own. A round of it reads
-the bytes of a zero page, an extension, a command line and an EFI memory map, settles the table behind the first two and behind both others,
-trims the BIOS's part, makes the map and judges it; no file is opened in it, no text made, no memory set up. Each shape is a table of which the
-first 128 entries stand in the zero page and the others in the extension, with a command line; or the descriptors of an EFI memory map, which are
-added to two entries.
+the bytes of a zero page, an extension, a command line and an EFI memory map, settles the table after the first two and after the other two,
+trims the BIOS's part, makes the map and checks it. A round opens no file, makes no text and sets up no memory. A shape is a table with its first
+128 entries in the zero page and the others in the extension, and a command line; or the descriptors of an EFI memory map, added to two
+entries.
 
-The program runs over each shape with ROUNDS rounds, with one and with none, in no fixed order, RUNS times each, and of each the least
-time counts. `first`: one round less none, so one in a new process, which touches its memory for the first time; `next`: each round
-behind it. How many milliseconds a round over 3,200 entries is to take at most stands beside it.
+The program runs RUNS times over each shape with ROUNDS rounds, with one and with none, in random order; the least time of each counts.
+`first`: one round less none, so a round in a new process, which touches its memory for the first time; `next`: each later round.
+`at most`: the limit in milliseconds of a `next` round over the larger table.
 """
 import os
 import random

@@ -4,8 +4,8 @@
 usage: bench/memblock.py [ROUNDS]
 
 It proves and builds bench/journal.main.txt and bench/tables.main.txt as programs over a copy of the crates, in a folder of its own,
-and prints the microseconds of one call: the least time of several runs with ROUNDS rounds, two calls each, less that of as many with
-none. `half`: a claim or a free that moves half of the runs; `none`: one that moves none; `owns`: the test of a range's owner.
+and prints the microseconds of one call: the least time of several runs with ROUNDS rounds, two calls each, less the least time of
+runs without a round. `half`: a claim or a free that moves half of the runs; `none`: one that moves none; `owns`: the test of a range's owner.
 """
 import os
 import re
@@ -22,8 +22,8 @@ PROGRAMS = (("journal", "boot_journal bm_base", ("half", "none", "owns")),
 
 
 def write_crates(folder, crates, programs):
-    """Copies the crates to the folder, and writes the programs over them beside: of each its name, the libraries that it uses, and for
-    each of its files but src/main.rt the path and the file of bench/ that it is."""
+    """Copies the crates to the folder, and adds the programs that use them. Each program has a name, its libraries, and for each of
+    its files except src/main.rt the path and the source in bench/."""
     for crate in crates:
         shutil.copytree(os.path.join(TOP, "crates", crate), os.path.join(folder, "crates", crate),
                         ignore=shutil.ignore_patterns("out", "must-fail"))
@@ -44,7 +44,7 @@ def build(folder, name, kind):
 
 
 def build_from(folder, name, kind):
-    """Proves and builds the program; answers it, and the files that it was linked from."""
+    """Proves and builds the program; returns its path, and the files that it was linked from."""
     here = os.path.join(folder, "crates", "bench_" + name)
     done = subprocess.run(["rt", "run", "--", kind, "2", "1"], cwd=here, capture_output=True, text=True)
     if done.returncode != 0:

@@ -1,11 +1,11 @@
 #!/usr/bin/env python3
-"""What the lines of a page script cost: 1,000 and 10,000 takes and gives in no order, over 64 GiB of 100,000 runs of free frames and over 16 TiB
+"""What the lines of a page script cost: 1,000 and 10,000 allocations and frees in random order, over 64 GiB of 100,000 runs of free frames and over 16 TiB
 in one run.
 
 usage: bench/pages.py
 
 It proves and builds bench/pages.main.txt as a program over a copy of the crates, in a folder of its own, and prints milliseconds: the least
-time of several runs with so many lines, less that of as many with none; and how much dearer 10,000 lines are than 1,000.
+time of several runs with that many lines, less the least time of runs without lines; and the ratio of 10,000 lines to 1,000.
 """
 import tempfile
 
