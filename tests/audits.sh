@@ -1,7 +1,7 @@
 #!/bin/sh
 # audits.sh [PROGRAM [AUDIT]]: the reports map, owners and blocks that PROGRAM makes of every machine of examples/ audit as sound, with
-# status 0 and nothing on standard error. Then what AUDIT says where a line of one of them is gone, where a file, the words or
-# the output are at fault, and of three empty files. Prints a line for each difference, and 'N passed, M failed' at its end.
+# status 0 and nothing on standard error. Then what AUDIT says if a line of one of them is gone, if a file, the words or
+# the output are at fault, and of three empty files. Prints a line for each difference, and finally 'N passed, M failed'.
 . "$(dirname "$0")/counted.sh"
 program=$(built "${1:-$top/bootmem}") || exit 2
 audit=$(built "${2:-$top/bootaudit}") || exit 2

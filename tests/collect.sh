@@ -1,6 +1,6 @@
 #!/bin/sh
 # collect.sh: runs tools/collect.sh over folders that imitate /sys and /proc, and compares what it gathered.
-# Prints a line for each difference, and 'N passed, M failed' at its end.
+# Prints a line for each difference, and finally 'N passed, M failed'.
 . "$(dirname "$0")/counted.sh"
 
 # same WHAT FILE TEXT: the file's bytes, as od prints them, are these
@@ -68,7 +68,7 @@ is "what is complained of" "$(sed "s|$work|WORK|" "$work/err")" \
 	"collect.sh: slit.bin: no SLIT here (WORK/sys/firmware/acpi/tables/SLIT)
 collect.sh: cmdline may hold secrets: look at it before you hand the folder on"
 
-# descriptors of runtime services, in the order of their numbers, of which the greatest doesn't fit a shell's numbers
+# descriptors of runtime services, in the order of their numbers; the greatest doesn't fit a shell's numbers
 map=$work/sys/firmware/efi/runtime-map
 # descriptor NUMBER TYPE ADDRESS PAGES ATTRIBUTES: as the kernel shows one
 descriptor() {

@@ -1,7 +1,7 @@
 #!/bin/sh
 # install.sh: installs ./bootmem, ./bootmem61 and ./bootaudit into a folder as 'make install' does, and looks that what the manual pages and the
 # README point to is there, that the programs and the tools run from there, that an installation proves nothing, and that 'make uninstall'
-# leaves nothing. Prints a line for each difference, and 'N passed, M failed' at its end.
+# leaves nothing. Prints a line for each difference, and finally 'N passed, M failed'.
 . "$(dirname "$0")/counted.sh"
 cd "$top" || exit 1
 programs="bootmem bootmem61 bootaudit"
@@ -179,7 +179,7 @@ for tool in "$root"/bin/*; do
 done
 is "bootmem-collect without a folder" "$("$root/bin/bootmem-collect" 2>&1 | grep -c '^usage: ')" 1
 
-# the tools' pages: one each, of the tool's own words, without complaint, and narrow enough behind their 7 columns
+# the tools' pages: one each, of the tool's own words, without complaint, and narrow enough after their 7 columns
 for tool in "$root"/bin/bootmem-* "$root"/bin/*-from-log "$root/bin/free-lists" "$root/bin/boot-example"; do
 	page=$share/man/man1/$(basename "$tool").1
 	"$tool" --help >"$work/help" 2>/dev/null || continue

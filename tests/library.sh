@@ -2,7 +2,7 @@
 # library.sh [PROGRAM]: the library against the program, and from C, Rust and Python. Every report of every machine of examples/ through the
 # library is the very bytes of the program, with its status and its line, and what it hands over as values is what the program's text
 # says. The calls with a profile are compared with bootmem61, which lies beside PROGRAM. Then each allocation fails in turn. Then come the layout of the structs, the example in C, the tests that TOOLS.md shows, 'cargo
-# test' and the unit tests of Python. What lacks its tool is left out, with a line. Prints 'N passed, M failed' at its end.
+# test' and the unit tests of Python. What lacks its tool is left out, with a line. Finally prints 'N passed, M failed'.
 . "$(dirname "$0")/counted.sh"
 program=$(built "${1:-$top/bootmem}") || exit 2
 program61=$(built "$(dirname "$program")/bootmem61") || exit 2

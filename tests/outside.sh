@@ -1,6 +1,6 @@
 #!/bin/sh
 # outside.sh [PROGRAM]: what the program answers where the outside fails: files that can't be read, an output
-# that is full or whose reader leaves. Prints a line for each difference, and 'N passed, M failed' at its end.
+# that is full or whose reader leaves. Prints a line for each difference, and finally 'N passed, M failed'.
 . "$(dirname "$0")/counted.sh"
 program=$(built "${1:-$top/bootmem}") || exit 2
 
@@ -51,12 +51,12 @@ if [ -c /dev/full ]; then
 	is "no word, and a full standard error" "$?" 2
 fi
 
-# five files and two reports: each file in turn can't be read, and one that is malformed goes before one behind it that can't
+# five files and two reports: each file in turn can't be read, and one that is malformed goes before a later one that can't
 printf '\0\0\0\0\0\0\0\0\1\0\0\0\0\0\0\0' >ext
 { printf 'SRAT\060\0\0\0\1\225' && head -c 38 /dev/zero; } >srat
 : >empty
 head -c 15 ext >header
-# five STATUS LINE EXTENSION CMDLINE SRAT SCRIPT ZEROPAGE: what comes of files of these names
+# five STATUS LINE EXTENSION CMDLINE SRAT SCRIPT ZEROPAGE: what the program does with files of these names
 five() {
 	expect "$1" "$2" "$work/out" --e820ext "$3" --cmdline "$4" --srat "$5" --script "$6" --report map,buddyinfo "$7"
 }
@@ -73,7 +73,7 @@ five 5 'bootmem: srat: short' ext empty options missing "$zp"
 # a full output: exactly the bytes that there is room for go out. The room is what is left of a file below the size that a file may have
 (trap '' XFSZ && ulimit -f 1024 && exec head -c 4194304 /dev/zero >output 2>"$work/err")
 most=$(($(wc -c <output)))
-# room STATUS BYTES LIST WORD..: the program's status where there is room for so many bytes of the reports, which are in whole
+# room STATUS BYTES LIST WORD..: the program's status if there is room for BYTES bytes of the reports, which are in whole
 room() {
 	wanted=$1
 	room=$2
@@ -91,7 +91,7 @@ room() {
 	fi
 }
 
-# before LINE: how many bytes of whole stand before the first line that ends so
+# before LINE: how many bytes of whole are before the first line that ends with LINE
 before() {
 	echo "$(($(sed "/$1\$/,\$d" whole | wc -c)))"
 }
@@ -107,7 +107,7 @@ for bytes in 0 1 "$((second - 1))" "$second" "$((second + 1))" "$((third - 1))" 
 done
 room 0 "$end" map,buddyinfo,blocks "$@"
 
-# the blocks of 20 GiB are one put, of which the lines up to 8 GiB find room
+# the blocks of 20 GiB are written in one piece; the lines up to 8 GiB find room
 great=$top/examples/q35-20g-numa4/zp.bin
 "$program" --report map,blocks "$great" >whole
 upto=$(before ' 0x0000000200000000')

@@ -1,13 +1,13 @@
 #!/bin/sh
 # real_boots.sh [PROGRAM]: runs the program over every machine of examples/ and compares its reports byte for byte with
 # the texts that the kernel's own log confirms: map.txt, memory.txt, nodes.txt, zones.txt, crash.txt, and replay/script.txt, the boot's
-# early allocations, each address of which is the kernel's own.
+# early allocations, whose addresses are all the kernel's own.
 # Prints a line for each difference, how many texts of each report agree, how many answers and addresses the replays that
-# agree have, which files no report reads, and 'N passed, M failed' at its end. A text that is missing is a failure, too.
+# agree have, which files no report reads, and finally 'N passed, M failed'. A text that is missing is a failure, too.
 . "$(dirname "$0")/counted.sh"
 program=$(built "${1:-$top/bootmem}") || exit 2
 reports="map memory nodes zones crash script"
-# so many texts there are
+# the number of texts
 all=264
 answers=0
 addresses=0

@@ -2,16 +2,16 @@
 # shown.sh [PROGRAM [FILE..]]: runs the commands that the documents show, and compares what they print with what is shown, byte
 # for byte. bootmem61 and bootaudit lie beside PROGRAM. The documents are README.md, the manual pages and some of docs/ and examples/, or the files that are named.
 #
-# A command stands behind '$ ' in an indented block of a .md file, or between .nf and .fi of a manual page; what follows
+# A command follows '$ ' in an indented block of a .md file, or between .nf and .fi of a manual page; what follows
 # it, up to the next one, is its output and its standard error as they come. A here-document belongs to its command, and so
-# does the line behind one that ends with a backslash or a bar. Each block begins at the top of a copy of the repository's examples and
+# does the line after one that ends with a backslash or a bar. Each block begins at the top of a copy of the repository's examples and
 # tools, with the programs as ./bootmem, ./bootmem61 and ./bootaudit and on the PATH; files that an earlier block of the same document made are still there.
 # A block whose first line has no '$ ' shows no command and isn't run: `plain` names each that may be so, another one fails.
 #
 # What a command needs of the machine is stood in for by `stand_in`, and none of it is read from the machine that runs the test.
-# An example of a manual page has room within 78 columns, behind the 11 by which a page shifts it.
-# Folders of the test's own are told as a user would see them: the copy as /home/me/bootmem, the stand-ins without their front.
-# Prints a line for each difference, and 'N passed, M failed; K blocks show no command' at its end.
+# An example of a manual page has room within 78 columns, after the 11 by which a page shifts it.
+# The test's own folders are shown as a user would see them: the copy as /home/me/bootmem, the stand-ins without their front.
+# Prints a line for each difference, and finally 'N passed, M failed; K blocks show no command'.
 . "$(dirname "$0")/counted.sh"
 program=$(built "${1:-$top/bootmem}") || exit 2
 [ $# -eq 0 ] || shift
@@ -90,7 +90,7 @@ plain() {
 	esac
 }
 
-# blocks FILE: the lines of its blocks as a reader sees them, each block behind a line of one byte 1
+# blocks FILE: the lines of its blocks as a reader sees them, each block after a line of one byte 1
 blocks() {
 	case $1 in
 	*.md) awk '/^    / { if (!on) print "\001"; on = 1; print substr($0, 5); next } { on = 0 }' "$1" ;;
@@ -100,7 +100,7 @@ blocks() {
 }
 
 # split FOLDER: of the blocks on standard input, one script each, N.sh, and what its commands print, N-C.want; the command
-# itself, for what is told of it, is N-C.command. The first lines of blocks without a command are in `plain`.
+# itself, for the messages about it, is N-C.command. The first lines of blocks without a command are in `plain`.
 split() {
 	awk -v folder="$1" '
 		function begin() { command++; want = folder "/" block "-" command ".want"; printf "" >want
@@ -117,7 +117,7 @@ split() {
 		{ print >want }'
 }
 
-# run_block FOLDER COPY BLOCK: runs the block's script, and tells what it printed as a user would see it
+# run_block FOLDER COPY BLOCK: runs the block's script, and shows what it printed as a user would see it
 run_block() {
 	(cd "$2" && PATH="$machine/bin:$2:$2/tools:$PATH" LC_ALL=C exec sh "$1/$3.sh") >"$1/said" 2>&1
 	[ ! -s "$1/said" ] || echo "$name: block $3: $(cat "$1/said")"
