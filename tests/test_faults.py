@@ -1,8 +1,8 @@
-"""Each fault of each input, each two neighbouring faults that one input can have at once, of which the program prints the first one of
-docs/FORMATS.md, and beside the least that it refuses the greatest that it accepts.
+"""Every fault of every input. If an input has two faults, the program reports the one that docs/FORMATS.md lists first. Next to the smallest
+input that is refused for its size or place, there is the greatest one that is accepted.
 
-The cases are in fault_tables/, a file for each input, each with a name that says what it shows. If an input is refused the status is 5, nothing is
-on standard output, and standard error has the one line.
+The cases are in fault_tables/, one file per input; the name of a case says what it shows. For a refused input the status is 5, standard output is
+empty, and standard error has one line.
 """
 
 import unittest
@@ -14,8 +14,8 @@ TABLES = (zero_page, extension, command_line, srat, script, pages, slit, efi)
 
 
 def words_and_files(table, held, entries=MACHINE):
-    """The words that name a file of these bytes as the table's input, and the files, with what the table has beside it: a zero page of
-    these entries unless the bytes are one."""
+    """The words and the files of a run over these bytes as the table's input, with the other files that the table needs. A zero page
+    of these entries is added unless the input is the zero page."""
     if table.OPTION is None:
         return ["zp"], {"zp": held}
     beside = getattr(table, "BESIDE", {})
@@ -24,10 +24,10 @@ def words_and_files(table, held, entries=MACHINE):
 
 
 class Faults(Case):
-    """What each input is refused for."""
+    """Faults of inputs."""
 
     def test_refused(self):
-        """Each fault, and of two the first."""
+        """Each fault is reported; of two faults, the first one."""
         for table in TABLES:
             for name, held, fault in table.REFUSED:
                 words, files = words_and_files(table, held)
@@ -35,7 +35,7 @@ class Faults(Case):
                 self.check(f"{table.INPUT}: {name}", run_over(files, ["--report", "map", *words]), wanted)
 
     def test_accepted(self):
-        """The report is the text; of `journal` the text is the first lines. A case may name the machine's entries."""
+        """The report equals the text; for `journal` the text is only its first lines. A case may have map entries of its own."""
         for table in TABLES:
             for name, held, report, text, *entries in table.ACCEPTED:
                 words, files = words_and_files(table, held, *entries)
@@ -45,7 +45,7 @@ class Faults(Case):
                 self.check(f"{table.INPUT}: {name}", (status, out, line), (0, text, ""))
 
     def test_in_order(self):
-        """Of two inputs with a fault the first one's is printed."""
+        """If several inputs are faulty, the fault of the first one is reported."""
         for name, words, files, status, line in inputs_in_order.CASES:
             self.check(name, run_over(files, ["--report", "map", *words]), (status, "", line + "\n"))
 

@@ -1,5 +1,5 @@
-"""The EFI memory map: its faults, in their order: too long, header, length, a descriptor too far, of which the least is told; and what its
-descriptors make of a map."""
+"""Faults of the EFI memory map, in the order in which the program checks for them: too long, header, length, and a descriptor too far (the
+first one is reported); and how its descriptors change the map of an accepted boot."""
 import struct
 
 from support import RAM, RESERVED
@@ -12,7 +12,7 @@ WB, MORE_RELIABLE, SP = 0x8, 0x10000, 0x40000
 
 
 def descriptor(kind, base, pages, attributes=WB, stride=48):
-    """A descriptor; what isn't read of it has all bits set."""
+    """A descriptor. All bits are set in the fields that the program doesn't read."""
     return struct.pack("<IIQQQQ", kind, 2**32 - 1, base, 2**64 - 1, pages, attributes) + b"\xff" * (stride - 40)
 
 
@@ -25,32 +25,32 @@ NEAR = descriptor(0, 2**64 - 0x1000, 0)
 LONGEST = efi(*[descriptor(7, 0x200000, 1, stride=40)] * 26214, stride=40)
 
 REFUSED = [
-    # each alone
-    ("a byte too many", LONGEST + bytes(9), "too long"),
-    ("no byte", b"", "header"),
+    # one fault
+    ("the shortest file that is too long", LONGEST + bytes(9), "too long"),
+    ("an empty file", b"", "header"),
     ("seven bytes", efi()[:7], "header"),
     ("descriptors of 32 bytes", efi(stride=32), "header"),
     ("descriptors of 39 bytes", efi(stride=39), "header"),
     ("descriptors of 44 bytes", efi(stride=44), "header"),
-    ("descriptors of no bytes", efi(stride=0), "header"),
+    ("descriptors of 0 bytes", efi(stride=0), "header"),
     ("version 0", efi(version=0), "header"),
     ("version 2", efi(version=2), "header"),
-    ("a byte behind the descriptors", efi(NEAR) + b"\0", "length"),
-    ("a byte of a descriptor alone", efi() + b"\0", "length"),
-    ("a descriptor less a byte", efi(NEAR)[:-1], "length"),
+    ("a byte after the descriptors", efi(NEAR) + b"\0", "length"),
+    ("a single byte of a descriptor", efi() + b"\0", "length"),
+    ("a descriptor that lacks its last byte", efi(NEAR)[:-1], "length"),
     ("a descriptor that ends a byte too far", efi(FAR), "descriptor 0 too far"),
-    ("a descriptor of too many pages", efi(descriptor(7, 0, 2**52)), "descriptor 0 too far"),
-    ("as many pages as there can be", efi(descriptor(7, 0, 2**64 - 1)), "descriptor 0 too far"),
-    ("the greatest address, and a page", efi(descriptor(7, 2**64 - 1, 1)), "descriptor 0 too far"),
+    ("the fewest pages at address 0 that end too far", efi(descriptor(7, 0, 2**52)), "descriptor 0 too far"),
+    ("the greatest number of pages", efi(descriptor(7, 0, 2**64 - 1)), "descriptor 0 too far"),
+    ("one page at the greatest address", efi(descriptor(7, 2**64 - 1, 1)), "descriptor 0 too far"),
     ("reserved memory too far", efi(descriptor(0, 2**64 - 0x1000, 1, 0)), "descriptor 0 too far"),
     ("the second descriptor too far", efi(NEAR, FAR), "descriptor 1 too far"),
-    # two at once
+    # two faults
     ("too long, and of version 2", b"\x28\0\0\0\2" + LONGEST[5:] + bytes(9), "too long"),
     ("too long, and of another length", LONGEST + bytes(10), "too long"),
     ("too long, and a descriptor too far", LONGEST[:8] + descriptor(7, 2**64 - 0x1000, 1, stride=40) + LONGEST[48:] + bytes(9), "too long"),
-    ("version 2, and a byte behind the descriptors", efi(NEAR, version=2) + b"\0", "header"),
+    ("version 2, and a byte after the descriptors", efi(NEAR, version=2) + b"\0", "header"),
     ("version 2, and a descriptor too far", efi(FAR, version=2), "header"),
-    ("a byte behind a descriptor too far", efi(FAR) + b"\0", "length"),
+    ("a byte after a descriptor too far", efi(FAR) + b"\0", "length"),
     ("two descriptors too far", efi(NEAR, FAR, FAR), "descriptor 1 too far"),
 ]
 
@@ -59,7 +59,7 @@ PLAIN = """\
 0x0000000000001000..0x000000000009fbff 1 usable
 0x0000000000100000..0x0000000007fdffff 1 usable
 """
-# type, attributes and pages of descriptors one behind the other from 2 MiB on, and what the map has of them
+# Adjoining descriptors from 2 MiB on: type, attributes and pages of each. MADE is the resulting map.
 KINDS = [(9, WB, 16), (7, 0, 1), (4, SP | WB, 2), (8, WB, 1), (10, 0, 1), (14, WB, 1), (5, WB, 1), (15, WB, 1), (2**32 - 1, SP, 1)]
 MADE = """\
 0x0000000000000000..0x0000000000000fff 2 reserved
@@ -77,14 +77,14 @@ MADE = """\
 
 
 def in_a_row(kinds):
-    """The descriptors, each where the one before it ends."""
+    """Adjoining descriptors from 2 MiB on: each begins where the one before it ends."""
     base = 0x200000
     for kind, attributes, pages in kinds:
         yield descriptor(kind, base, pages, attributes)
         base += 0x1000 * pages
 
 
-# a machine whose firmware tells two entries that overlap, and what is added to its map
+# The zero page of a machine whose two entries overlap, and its map once EFI's has been added.
 TWO_ENTRIES = [(0x100000, 0x7F00000, RAM), (0x7FE0000, 0x20000, RESERVED)]
 ADDED = """\
 0x0000000000100000..0x00000000001fffff 1 usable
@@ -96,7 +96,7 @@ ADDED = """\
 """
 
 
-# UEFI's types by their names (EFI_MEMORY_TYPE), and a type of a firmware's own; what each becomes with the attributes of TABLE's head
+# What a descriptor of each type (EFI_MEMORY_TYPE) becomes in the map, with each of these attributes; other types are reserved.
 ATTRIBUTES = [SP, SP | WB, WB, 0]
 FREE = ["4026531839 soft reserved", "4026531839 soft reserved", "1 usable", "2 reserved"]
 OF_TYPE = {1: FREE, 2: FREE, 3: FREE, 4: FREE, 7: FREE, 8: ["5 unusable"] * 4, 9: ["3 ACPI data"] * 4, 10: ["4 ACPI NVS"] * 4,
@@ -104,7 +104,7 @@ OF_TYPE = {1: FREE, 2: FREE, 3: FREE, 4: FREE, 7: FREE, 8: ["5 unusable"] * 4, 9
 
 
 def each_type():
-    """For each type and each attribute a descriptor of a page at 4 GiB, and the map's line of it."""
+    """One case for each type and attribute: a descriptor of one page at 4 GiB, and its line in the map."""
     for kind in [*range(16), 2**32 - 1]:
         for attributes, made in zip(ATTRIBUTES, OF_TYPE.get(kind, ["2 reserved"] * 4)):
             yield (f"type {kind}, attributes {attributes:#x}", efi(descriptor(kind, 0x100000000, 1, attributes)), "map",
@@ -113,11 +113,12 @@ def each_type():
 
 ACCEPTED = [
     ("no descriptor", efi(), "map", PLAIN),
-    ("no descriptor of 40 bytes", efi(stride=40), "map", PLAIN),
-    ("as long as one can be", LONGEST, "map", PLAIN),
+    ("no descriptor, of 40 bytes each", efi(stride=40), "map", PLAIN),
+    ("the longest map", LONGEST, "map", PLAIN),
     ("descriptors of 4,096 bytes", efi(descriptor(9, 0, 0, stride=4096), stride=4096), "map", PLAIN),
     ("no page at the last address", efi(descriptor(9, 2**64 - 1, 0)), "map", PLAIN),
-    ("as far as one can go", efi(descriptor(9, 2**64 - 0x1001, 1)), "map", PLAIN + "0xffffffffffffefff..0xfffffffffffffffe 3 ACPI data\n"),
+    ("a descriptor that ends at the last possible address", efi(descriptor(9, 2**64 - 0x1001, 1)), "map",
+     PLAIN + "0xffffffffffffefff..0xfffffffffffffffe 3 ACPI data\n"),
     ("a descriptor of each kind", efi(*in_a_row(KINDS)), "map", MADE),
     *each_type(),
     ("ACPI's tables, and memory that can't be cached", efi(descriptor(9, 0x200000, 16), descriptor(7, 0x300000, 1, 0)), "map", ADDED, TWO_ENTRIES),

@@ -1,5 +1,5 @@
-"""Each input is read and judged before the next one is read: zero page, extension, command line, SRAT, script, page script, SLIT, EFI
-memory map."""
+"""The program reads and checks each input before it reads the next one, in this order: zero page, extension, command line, SRAT, script,
+page script, SLIT, EFI memory map."""
 from support import MACHINE, extension, srat, zero_page
 
 from . import efi, slit
@@ -17,20 +17,20 @@ LINES = {
     "slit": "bootmem: slit: short",
     "efi": "bootmem: efi: header",
 }
-# in another order than the files are read
+# The words name the files in another order than the program reads them.
 WORDS = ["--efi", "efi", "--slit", "slit", "--pages", "pages", "--script", "script", "--srat", "srat", "--cmdline", "cmd", "--e820ext", "ext", "zp"]
 ORDER = list(LINES)
 
 
 def cases():
-    """For each input: it and all behind it are wrong; it alone is missing, and all behind it are wrong; it is wrong, and all behind it
-    are missing."""
+    """Three cases for each input: it and all later ones are wrong; it is missing and all later ones are wrong; it is wrong and all later
+    ones are missing."""
     for place, name in enumerate(ORDER):
         before = {each: GOOD[each] for each in ORDER[:place]}
         behind = {each: BAD[each] for each in ORDER[place + 1:]}
         yield f"wrong from {name} on", WORDS, {**before, name: BAD[name], **behind}, 5, LINES[name]
-        yield f"no {name}, and wrong behind it", WORDS, {**before, **behind}, 3, f"bootmem: cannot read {name}"
-        yield f"a wrong {name}, and none behind it", WORDS, {**before, name: BAD[name]}, 5, LINES[name]
+        yield f"no {name}, and later inputs are wrong", WORDS, {**before, **behind}, 3, f"bootmem: cannot read {name}"
+        yield f"a wrong {name}, and no later inputs", WORDS, {**before, name: BAD[name]}, 5, LINES[name]
 
 
 CASES = list(cases())

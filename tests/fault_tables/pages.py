@@ -1,4 +1,4 @@
-"""The page script: its faults; of the lowest line that has one its form before its numbers."""
+"""Faults of the page script. The program reports the lowest faulty line; a line's form is checked before its numbers."""
 
 INPUT = "pages"
 OPTION = "--pages"
@@ -16,19 +16,19 @@ BAD_NUMBERS = [
 LONGEST = b"#" * 1048576
 
 REFUSED = [
-    ("a byte too many", LONGEST + b"#", "too long"),
-    ("a byte too many, and no form", b"x\n" + LONGEST, "too long"),
-    *[(f"no form: {line}", line.encode("latin-1"), "line 1: form") for line in BAD_FORMS],
-    *[(f"no number: {line}", line.encode("latin-1"), "line 1: number") for line in BAD_NUMBERS],
-    ("no form and no number", b"pages x 11 1024 dma", "line 1: form"),
-    ("a number, and no form behind it", b"# page\n\ngive x\ngive\n", "line 3: number"),
-    ("no form, and a number behind it", b"give\ngive x\n", "line 1: form"),
+    ("the shortest file that is too long", LONGEST + b"#", "too long"),
+    ("a file too long, with a malformed line", b"x\n" + LONGEST, "too long"),
+    *[(f"malformed: {line}", line.encode("latin-1"), "line 1: form") for line in BAD_FORMS],
+    *[(f"a wrong number: {line}", line.encode("latin-1"), "line 1: number") for line in BAD_NUMBERS],
+    ("a malformed line with wrong numbers", b"pages x 11 1024 dma", "line 1: form"),
+    ("a wrong number before a malformed line", b"# page\n\ngive x\ngive\n", "line 3: number"),
+    ("a malformed line before a wrong number", b"give\ngive x\n", "line 1: form"),
 ]
 
 ACCEPTED = [
-    ("no byte", b"", "pages", ""),
-    ("as long as one can be", LONGEST, "pages", ""),
+    ("an empty file", b"", "pages", ""),
+    ("the longest file", LONGEST, "pages", ""),
     ("the greatest numbers", b"pages 4294967295 10 1023 Normal\nnear 0xffffffff 10 1023\ngive 4294967295", "pages",
      "1: no block\n2: at 0x0000000003000000\n3: done\n"),
-    ("words and comments", b" \tgive\t1 \r\n#give\n # give x\n\ngive 2", "pages", "1: unknown\n5: unknown\n"),
+    ("blanks, empty lines and comments", b" \tgive\t1 \r\n#give\n # give x\n\ngive 2", "pages", "1: unknown\n5: unknown\n"),
 ]

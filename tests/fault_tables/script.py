@@ -1,5 +1,5 @@
-"""The early script: its faults; of the lowest line that has one the first of: form, number, alignment, zero size, second sections, too
-far."""
+"""Faults of the early script. The program reports the lowest faulty line, and its first fault in this order: form, number, alignment,
+zero size, second sections, too far."""
 
 from support import encoded, rows_of
 
@@ -36,43 +36,43 @@ TOO_FAR = [
     "reserve 1 0xfffffffffffff000 4K", "peek 0xffffffffffffffff 1", "peek 0xffffffffffffffc0 64",
 ]
 
-# Each a line that has two faults, and the one that is told.
+# Name, a line with two faults, and the fault that the program reports.
 ON_ONE_LINE = rows_of(r"""
-no form, and a number | free x 1 | form
-no form, and an alignment | alloc 1 4K 3 exact | form
-no form, and a zero size | trim 1 0 0 | form
-no form, and too far | reserve 1 0xffffffffffffffff 1 1 | form
-a number, and an alignment | alloc x 4K 3 | number
-a number behind an alignment | alloc 1 4K 3 node 1024 | number
-a number behind a zero size | alloc 1 0 4K max x | number
-a number, and a zero size | trim x 0 | number
-a number, and a zero length | peek x 0 | number
-a number, and too far | reserve x 0xffffffffffffffff 1 | number
+malformed, and a wrong number | free x 1 | form
+malformed, and a wrong alignment | alloc 1 4K 3 exact | form
+malformed, and a zero size | trim 1 0 0 | form
+malformed, and too far | reserve 1 0xffffffffffffffff 1 1 | form
+a wrong number, and a wrong alignment | alloc x 4K 3 | number
+a wrong number after a wrong alignment | alloc 1 4K 3 node 1024 | number
+a wrong number after a zero size | alloc 1 0 4K max x | number
+a wrong number, and a zero size | trim x 0 | number
+a wrong number, and a zero length | peek x 0 | number
+a wrong number, and too far | reserve x 0xffffffffffffffff 1 | number
 a length above its bound, and too far | peek 0xffffffffffffffff 65 | number
-an alignment, and a zero size | alloc 1 0 3 | alignment
+a wrong alignment, and a zero size | alloc 1 0 3 | alignment
 an alignment of 0, and a zero size | alloc 1 0 0 | alignment
 """)
 OVER_LINES = rows_of(r"""
-the second line | free 1\nfree\n | line 2: form
-a last line without a newline | free 1\nfree | line 2: form
-lines that are passed over count | # free\n\n \t\r\n#\nfree 1\n\nfree | line 7: form
-a comment that isn't at the head | free 1 # x | line 1: form
+a fault in the second line | free 1\nfree\n | line 2: form
+a fault in a last line without a newline | free 1\nfree | line 2: form
+comments and empty lines count | # free\n\n \t\r\n#\nfree 1\n\nfree | line 7: form
+a comment after other words | free 1 # x | line 1: form
 a second line `sections` | sections\nsections | line 2: second sections
 a third line `sections` | sections\n\nsections\nsections\n | line 3: second sections
-a second `sections` of no form | sections\nsections 1 | line 2: form
-a number before no form | free x\nfree | line 1: number
-no form before a number | free\nfree x | line 1: form
-an alignment before a number | alloc 1 4K 3\nfree x | line 1: alignment
-a zero size before an alignment | trim 1 0\nalloc 1 4K 3 | line 1: zero size
+a second `sections` that is malformed | sections\nsections 1 | line 2: form
+a wrong number before a malformed line | free x\nfree | line 1: number
+a malformed line before a wrong number | free\nfree x | line 1: form
+a wrong alignment before a wrong number | alloc 1 4K 3\nfree x | line 1: alignment
+a zero size before a wrong alignment | trim 1 0\nalloc 1 4K 3 | line 1: zero size
 a second `sections` before a zero size | sections\nsections\ntrim 1 0 | line 2: second sections
 a zero size before a second `sections` | sections\ntrim 1 0\nsections | line 2: zero size
 too far before a second `sections` | sections\nreserve 1 8E 8E\nsections | line 2: too far
-too far before no form | peek 0xffffffffffffffff 1\nfree | line 1: too far
+too far before a malformed line | peek 0xffffffffffffffff 1\nfree | line 1: too far
 a second `sections` before too far | sections\nsections\nreserve 1 8E 8E | line 2: second sections
 """) + [
-    ("the least file that is too long", "free 1\n#".ljust(2**20 + 1, "-"), "too long"),
-    ("a file too long, of no form", "free\n".ljust(2**20 + 1), "too long"),
-    ("a file too long, of a number", "free x\n".ljust(2**20 + 1), "too long"),
+    ("the shortest file that is too long", "free 1\n#".ljust(2**20 + 1, "-"), "too long"),
+    ("a file too long, with a malformed line", "free\n".ljust(2**20 + 1), "too long"),
+    ("a file too long, with a wrong number", "free x\n".ljust(2**20 + 1), "too long"),
 ]
 
 
@@ -84,14 +84,14 @@ REFUSED = encoded(
     alone(BAD_FORMS, "form") + alone(BAD_NUMBERS, "number") + alone(BAD_ALIGNMENTS, "alignment") + alone(ZERO_SIZES, "zero size")
     + alone(TOO_FAR, "too far") + [(name, line, f"line 1: {fault}") for name, line, fault in ON_ONE_LINE] + OVER_LINES)
 
-# Each a script and what came of it.
+# Name, script, and the report `script` for it.
 CAME = [
-    ("no byte", "", ""),
-    ("lines that are passed over", "#\n# x\n \t\r\n\n#free\n", ""),
+    ("an empty file", "", ""),
+    ("comments and empty lines", "#\n# x\n \t\r\n\n#free\n", ""),
     ("blanks, tabs and carriage returns", " \t free\r1 \r\n", "1: unknown\n"),
     ("the greatest ID", "free 4294967295", "1: unknown\n"),
     ("an ID with a suffix", "free 1k", "1: unknown\n"),
-    ("an ID of an octal number", "reserve 010 4G 1\nfree 8", "1: done\n2: done\n"),
+    ("an ID in octal", "reserve 010 4G 1\nfree 8", "1: done\n2: done\n"),
     ("the greatest size", "alloc 1 0xffffffffffffffff 1", "1: no gap\n"),
     ("the least size and alignment", "alloc 1 1 1 max 0x1001", "1: no gap\n"),
     ("the greatest alignment", "alloc 1 1 0x8000000000000000", "1: no gap\n"),
@@ -99,9 +99,9 @@ CAME = [
     ("the greatest minimum and maximum", "alloc 1 15E 1 min 0xffffffffffffffff max 0xffffffffffffffff", "1: no gap\n"),
     ("the greatest byte", "fill 1 255", "1: unknown\n"),
     ("the least KEEP", "trim 1 1", "1: unknown\n"),
-    ("a range that ends as far as one can", "reserve 1 0xfffffffffffff000 0xfff", "1: done\n"),
+    ("a range that ends at the last possible address", "reserve 1 0xfffffffffffff000 0xfff", "1: done\n"),
     ("the greatest length", "peek 4G 64", "1: bytes " + "00" * 64 + "\n"),
-    ("bytes that end as far as they can", "peek 0xffffffffffffffbf 64", "1: bytes " + "00" * 64 + "\n"),
+    ("bytes that end at the last possible address", "peek 0xffffffffffffffbf 64", "1: bytes " + "00" * 64 + "\n"),
     ("one line `sections`", "free 1\nsections\nfree 1", "1: unknown\n3: unknown\n"),
     ("the longest file", "free 1\n#".ljust(2**20, "-"), "1: unknown\n"),
 ]

@@ -1,5 +1,5 @@
-"""The zero page: its faults, in their order: too long, wrong length, too few entries, too many entries, an entry too far, the
-initrd too far."""
+"""Faults of the zero page, in the order in which the program checks for them: too long, wrong length, too few entries, too many entries,
+an entry too far, the initrd too far."""
 from support import LOW, MACHINE, MAIN, RAM, RESERVED, zero_page
 
 INPUT = "zeropage"
@@ -17,10 +17,10 @@ FAR_PAGE = zero_page([LOW, FAR])
 FAR_INITRD_PAGE = zero_page(MACHINE, **FAR_INITRD)
 
 REFUSED = [
-    # each alone
+    # one fault
     ("a byte too many", PAGE + b"\0", "too long"),
     ("twice as long", PAGE + PAGE, "too long"),
-    ("no byte", b"", "wrong length"),
+    ("an empty file", b"", "wrong length"),
     ("a byte too few", PAGE[:4095], "wrong length"),
     ("no entry", NONE, "too few entries"),
     ("one entry", zero_page(MACHINE, count=1), "too few entries"),
@@ -34,8 +34,8 @@ REFUSED = [
     ("the last of 128 entries too far", zero_page(MACHINE + [EMPTY] * 125 + [FAR]), "entry 127 too far"),
     ("the initrd ends a byte too far", FAR_INITRD_PAGE, "initrd too far"),
     ("an initrd whose address and size are the greatest", zero_page(MACHINE, 2, 255, LAST, LAST), "initrd too far"),
-    ("an initrd too far by its upper halves", zero_page(MACHINE, 2, 1, 1 << 32, 0xFFFFFFFF << 32), "initrd too far"),
-    # two at once
+    ("an initrd too far only by the upper halves of its fields", zero_page(MACHINE, 2, 1, 1 << 32, 0xFFFFFFFF << 32), "initrd too far"),
+    # two faults
     ("too long, and no entry", NONE + b"\0", "too long"),
     ("too long, and too many entries", MANY + b"\0", "too long"),
     ("too long, and an entry too far", FAR_PAGE + b"\0", "too long"),
@@ -68,13 +68,13 @@ BY_BOTH_HALVES = FIRST_CLAIMS + "3: claim initrd 0x0000000100000801..0x000000020
 ACCEPTED = [
     ("two entries", PAGE, "map", MAP),
     ("128 entries", zero_page(MACHINE + [EMPTY] * 126), "map", MAP),
-    ("an entry that ends as far as one can", zero_page(MACHINE + [(2**64 - 0x1000, 0xFFF, RESERVED)]), "map",
+    ("an entry that ends at the last possible address", zero_page(MACHINE + [(2**64 - 0x1000, 0xFFF, RESERVED)]), "map",
      MAP + "0xfffffffffffff000..0xfffffffffffffffe 2 reserved\n"),
     ("an empty entry at the last address", zero_page(MACHINE + [(LAST, 0, RESERVED)]), "map", MAP),
-    ("an entry too far behind the stated ones", zero_page(MACHINE + [FAR], count=2), "map", MAP),
-    ("an initrd that ends as far as one can", zero_page(MACHINE, 2, 1, 2**64 - 0x2000, 0x1000), "journal", TO_THE_LAST_FRAME),
-    ("an initrd with both halves", zero_page(MACHINE, 2, 1, 0x100000801, 0x1000007FF + 0x100), "journal", BY_BOTH_HALVES),
-    ("an initrd too far that no loader gives", zero_page(MACHINE, 2, 0, LAST, LAST), "journal", NO_INITRD),
+    ("an entry too far after the stated ones is ignored", zero_page(MACHINE + [FAR], count=2), "map", MAP),
+    ("an initrd that ends in the last possible frame", zero_page(MACHINE, 2, 1, 2**64 - 0x2000, 0x1000), "journal", TO_THE_LAST_FRAME),
+    ("an initrd with both halves of its fields", zero_page(MACHINE, 2, 1, 0x100000801, 0x1000007FF + 0x100), "journal", BY_BOTH_HALVES),
+    ("an initrd too far, but no loader named", zero_page(MACHINE, 2, 0, LAST, LAST), "journal", NO_INITRD),
     ("an initrd at address 0", zero_page(MACHINE, 2, 1, 0, LAST), "journal", NO_INITRD),
     ("an initrd of size 0", zero_page(MACHINE, 2, 1, LAST, 0), "journal", NO_INITRD),
 ]
