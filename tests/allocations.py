@@ -1,5 +1,6 @@
 #!/usr/bin/env python3
-"""allocations.py LIBRARY PROGRAM MOST: what allocations.sh does once the library is built that makes an allocation fail."""
+"""allocations.py LIBRARY PROGRAM MOST: runs PROGRAM with LIBRARY preloaded, which makes one allocation fail, for at most MOST allocations
+of each case. allocations.sh builds LIBRARY and calls this script."""
 import os
 import subprocess
 import sys
@@ -22,12 +23,12 @@ PAGES = b"pages 1 0 0 DMA\npages 2 10 1 DMA32\nnear 3 4 1\ngive 2\ngive 2\npages
 
 
 def example(name, words):
-    """The words over the files of an example, in its folder."""
+    """A case in the folder of an example: the words are those of the command line."""
     return os.path.join(EXAMPLES, name), words.split(), {}
 
 
 def machine(entries, script, reports, *more, **held):
-    """The words and the files of a machine that is made here; the further words name the files that are held besides."""
+    """A case in a folder of its own: the words, and the files with their bytes. `more` are further words, which may name the files in `held`."""
     words, files = machine_files(entries)
     files |= {"script": script.encode(), **held}
     return None, ["--script", "script", "--report", reports, *words, *more, "zp"], files
@@ -53,16 +54,16 @@ CASES = [
         "summary --script replay/script --cmdline cmdline --srat srat.bin --kernel 0x1000000,0x3400000 zp.bin")),
 ]
 
-# What the reports of a run with early claims show: the answers of both files, the journal and the places of both tables.
+# The reports of a run with early claims: the answers to both files, the journal and the places of both tables.
 CLAIMED = "claims,script,journal,tables,reserved"
 
 
 def with_claims(entries, claims, script, *more, **held):
-    """A machine with a file of early claims."""
+    """A case with a file of early claims."""
     return machine(entries, script, CLAIMED, "--claims", "claims", *more, claims=claims.encode(), **held)
 
 
-# These run on bootmem61 alone.
+# These cases need bootmem61.
 CLAIM_CASES = [
     ("claims that are carried out and refused", with_claims(
         PC, "alloc 1 64K 4K max 16M\nreserve 2 0x4000000 1M\nalloc 1 4K 4K\nfree 9\nalloc 3 2G 4K\nalloc 4 4K 4K node 1 exact\n", "")),
@@ -79,13 +80,13 @@ CLAIM_CASES = [
 
 
 class Failing:
-    """Runs of a program in a folder where the allocation of a number fails."""
+    """Runs of one program in one folder, in each of which the allocation with a given number fails."""
 
     def __init__(self, library, program, folder, words):
         self.library, self.program, self.folder, self.words = library, program, folder, words
 
     def run(self, number):
-        """The status and both outputs where the allocation of that number fails; 0 is none."""
+        """The status and both outputs of a run in which the allocation with this number fails. With 0 none fails."""
         with tempfile.NamedTemporaryFile() as count:
             surroundings = {**os.environ, "LD_PRELOAD": self.library, "FAIL_ALLOC": str(number), "FAIL_ALLOC_COUNT": count.name}
             done = subprocess.run([self.program, *self.words], cwd=self.folder, env=surroundings, capture_output=True, timeout=SECONDS)
@@ -94,14 +95,14 @@ class Failing:
 
 
 def numbers(total, most):
-    """The numbers from 1 to the total, or so many of them, evenly spaced."""
+    """The numbers from 1 to `total`; if these are more than `most`, about `most` of them, evenly spaced."""
     if total <= most:
         return range(1, total + 1)
     return sorted({1 + place * total // most for place in range(most)} | {total})
 
 
 def name_of(program):
-    """The name that the program has in its lines on standard error."""
+    """The name with which the program begins its lines on standard error."""
     return subprocess.run([program], capture_output=True, check=False, timeout=SECONDS).stderr.split(b":")[0]
 
 
@@ -111,7 +112,7 @@ def told(end):
 
 
 def differences(name, failing, most, line):
-    """How many of the runs were as they should be, and how many weren't; the line is that of a run out of memory."""
+    """How many runs ended as they should, and how many didn't. `line` is what a run that is out of memory prints."""
     plain = failing.run(0)
     if failing.total == 0 or plain[0] not in (0, 6):
         print(f"{name}: {failing.total} allocations seen, {told(plain)}")

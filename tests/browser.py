@@ -1,5 +1,5 @@
-"""A headless Chromium for the tests of pages, by the protocol of its developer tools over a
-pipe."""
+"""A headless Chromium for the tests of pages. It is driven by the protocol of its developer
+tools, over a pipe."""
 
 import base64
 import json
@@ -19,8 +19,8 @@ def browser_path():
 
 
 class Browser:
-    """A browser with one page. What the page's console says, and errors that it didn't catch,
-    are in `said`."""
+    """A browser with one page. `said` has the messages on the page's console, and its uncaught
+    errors."""
 
     def __init__(self, width=1280, height=800):
         self.profile = tempfile.mkdtemp()
@@ -28,7 +28,7 @@ class Browser:
         self.back, from_write = os.pipe()
 
         def pipes():
-            """The browser reads descriptor 3 and writes 4."""
+            """Gives the browser its end of both pipes: it reads descriptor 3 and writes 4."""
             os.dup2(to_read, 63)
             os.dup2(from_write, 64)
             os.dup2(63, 3)
@@ -57,7 +57,7 @@ class Browser:
         shutil.rmtree(self.profile, ignore_errors=True)
 
     def call(self, method, **parameters):
-        """The answer to a call."""
+        """Calls a method, and returns its result."""
         self.number += 1
         message = {"id": self.number, "method": method, "params": parameters}
         if self.session:
@@ -66,7 +66,7 @@ class Browser:
         return self.until(lambda found: found.get("id") == self.number, method)
 
     def until(self, is_it, what):
-        """The first message that is it; of the others the page's complaints are kept."""
+        """Reads messages up to the first for which `is_it` holds, and keeps the page's complaints."""
         end = time.monotonic() + SECONDS
         while time.monotonic() < end:
             while b"\0" not in self.rest:
@@ -84,7 +84,7 @@ class Browser:
         raise RuntimeError(f"the browser says nothing to {what}")
 
     def listen(self, found):
-        """Keeps what the page complains of."""
+        """Keeps a message on the console, or an uncaught error, in `said`."""
         if found.get("method") == "Runtime.exceptionThrown":
             self.said.append(found["params"]["exceptionDetails"].get("exception", {}).get("description", "an exception"))
         elif found.get("method") == "Runtime.consoleAPICalled":
@@ -105,7 +105,7 @@ class Browser:
         return found["result"].get("value")
 
     def mouse(self, kind, x, y, **more):
-        """Something that the mouse does: mouseMoved, mousePressed, mouseReleased, mouseWheel."""
+        """Sends a mouse event: mouseMoved, mousePressed, mouseReleased or mouseWheel."""
         self.call("Input.dispatchMouseEvent", type=kind, x=x, y=y, **more)
 
     def screenshot(self, path):

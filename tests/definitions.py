@@ -1,17 +1,17 @@
 #!/usr/bin/env python3
 """definitions.py [--write | --table [WORD..]]: compares docs/DEFINITIONS.md with the files of
-definitions, crates/*/specs/*.antt, from which it is made.
+definitions (crates/*/specs/*.antt) from which the page is made.
 
 The page has a section for each storey and a heading for each crate, in the order of the tables of
 docs/ARCHITECTURE.md. Below them each file of definitions has an entry: its name, the comment at
-its head, and the names of its public definitions. In a crate a file comes after those that it
+its head, and the names of its public definitions. Within a crate a file comes after those that it
 uses. The crates of worked cases aren't on the page. The text above the first section is written
-by hand, and is kept.
+by hand; --write keeps it.
 
-Without words, prints a line for each difference between the page and what would be written, and
-how many files and definitions there are. --write writes the page. --table prints the definitions
-instead, one a line: file, name and the comment above it. With words, it prints only the lines
-that have one of them.
+Without an option it prints a line for each difference between the page and what --write would
+write, and how many files and definitions there are. --write writes the page. --table prints one
+definition per line: file, name and the comment above it. If words follow, it prints only the lines
+that contain one of them.
 """
 
 import glob
@@ -30,8 +30,8 @@ WIDTH = 100
 
 
 def definitions_of(text):
-    """The comment at the head of a file, by the empty name, and its definitions with the comments
-    above them, in their order."""
+    """The definitions of a file in their order, each name with the comment above it. The empty
+    name has the comment at the head of the file."""
     found, comment = {"": ""}, []
     for line in text.split("\n"):
         match = DEFINED.match(line)
@@ -105,7 +105,7 @@ def page_of(top, files):
 
 
 def differences(page, wanted):
-    """A line for each line that one of two pages has and the other lacks."""
+    """One message for each line that only one of the two pages has."""
     has, made = page.split("\n"), wanted.split("\n")
     wrong = [f"{PAGE}: tests/definitions.py --write would drop: {line}"
              for line in has if line not in set(made)]
@@ -116,7 +116,7 @@ def differences(page, wanted):
 
 
 def print_table(files, words):
-    """Prints the definitions, those whose line has one of the words if there are words."""
+    """Prints one line per definition; if there are words, only the lines that contain one."""
     for crate, found in files.items():
         for file, name, comment in ((f"{crate}/{file}", name, comment)
                                     for file, defined in found.items()

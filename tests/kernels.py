@@ -1,4 +1,4 @@
-"""Stand-ins for what the kernels of examples/ show of their machines: folders sys and proc, and folders as collect.sh keeps them."""
+"""Imitates what the kernels of examples/ show of their machines: the folders sys and proc, and folders as collect.sh keeps them."""
 
 import os
 import re
@@ -12,7 +12,7 @@ RESOURCES = {"usable": "System RAM", "reserved": "Reserved", "ACPI data": "ACPI 
 
 
 def stand_in(work, name):
-    """Folders sys and proc as the kernel of a machine shows them, by its log's map and zones."""
+    """Writes folders sys and proc as the kernel of a machine shows them, from the map and the zones in its log."""
     for part in ("sys/kernel/boot_params", "sys/firmware/acpi/tables", "proc"):
         os.makedirs(os.path.join(work, name, part))
     shutil.copy(example(name, "zp.bin"), os.path.join(work, name, "sys/kernel/boot_params/data"))
@@ -46,7 +46,7 @@ def stand_in(work, name):
 
 
 def crash_lines(name):
-    """The lines of iomem for the crash area that the kernel of a machine took, where its log tells it."""
+    """The lines of iomem for the crash area that the kernel of a machine took. There are none if its log doesn't have it."""
     if not has_file(name, "crash.txt"):
         return ""
     found = re.findall(r"0x0*([0-9a-f]+)\.\.0x0*([0-9a-f]+)", text_of(example(name, "crash.txt")))
@@ -54,8 +54,8 @@ def crash_lines(name):
 
 
 def folder_of(case, name):
-    """A folder as collect.sh keeps one of a boot: its inputs, the place of its kernel, and what its kernel shows as far as its log
-    tells it. The kernel of a boot with UEFI took the area that memblock answered to its own search for it."""
+    """Writes a folder as collect.sh keeps it for a boot: the inputs, the kernel's place, and what the kernel shows, as far as its log
+    has it. The crash area of a boot with UEFI is the one that memblock returned to the kernel's own search."""
     folder = case.path(name)
     if has_file(name, "zones.txt"):
         place = stand_in(case.path("kernels"), name)
@@ -72,7 +72,7 @@ def folder_of(case, name):
     for file in ("zp.bin", "cmdline", "e820ext.bin", "srat.bin", "slit.bin", "efi.bin"):
         if has_file(name, file):
             shutil.copy(example(name, file), folder)
-    if has_file(name, "linux"):  # the words of bootmem-linux, --pages and its value
+    if has_file(name, "linux"):  # words that bootmem-linux needs: --pages and its value
         write(os.path.join(folder, "pages"), text_of(example(name, "linux")).split()[1] + "\n")
     write(os.path.join(folder, "kernel"), (words_of(name)[words_of(name).index("--kernel") + 1] + "\n").encode())
     return folder

@@ -1,12 +1,12 @@
 #!/usr/bin/env python3
-"""named.py: checks that what the documents name exists: the files that links and paths in
-backquotes lead to, the headings that links and quoted titles lead to, the targets of `make`, and
-the functions and definitions in the documents about proofs.
+"""named.py: checks that everything that the documents name exists: the files of links and of paths
+in backquotes, the headings of links and of quoted titles, the targets of `make`, and the functions
+and definitions in the documents about proofs.
 
-A path may lack its first folders and the suffix of a source, and that of a definition `specs` too:
-`boot_model/Boot` is `crates/boot_model/specs/Boot.antt`. A path with a word such as NAME stands for
-many and isn't looked up. Prints a line for each name that doesn't exist, and how many were looked
-up.
+A path may lack its first folders and the suffix of a source; the path of a definition may also lack
+`specs`: `boot_model/Boot` is `crates/boot_model/specs/Boot.antt`. A path that contains a word such
+as NAME isn't looked up. Prints a line for each name that doesn't exist, and how many names were
+looked up.
 """
 
 import fnmatch
@@ -20,23 +20,23 @@ sys.dont_write_bytecode = True
 
 from documents import TOP, end, read
 
-# Files that aren't the repository's: pages of the toolchain, and sources of the kernel.
+# Files outside the repository: pages of the toolchain, and sources of the kernel.
 TOOLCHAIN = {"START-HERE.md", "START.md", "CONTRACTS.md", "SHORTER_PROOFS.md", "LANGUAGE.md", "TESTING.md", "CRATES.md",
              "antt/docs/primer-goals.md", "rattle/logic"}
 KERNEL = {"e820.c", "memblock.c", "page_alloc.c", "setup.c", "sparse.c", "srat.c", "numa.c", "mm/numa.c", "mm/numa_memblks.c",
           "kernel/crash_reserve.c", "kernel-parameters.txt"}
-# What an installation, a build or a reader's machine has.
+# Files of an installation, of a build or of a reader's machine.
 ELSEWHERE = {"./bootmem", "./bootmem61", "./bootaudit", "crates/*/out", "libexec/bootmem", "share/bootmem", "proc/", "sys/"}
 PATH = re.compile(r"[\w.*-]+(?:/[\w.*-]*)+|[\w*-]+\.(?:antt|json|md|py|rt|sh|txt|c|h)")
-# What stands for many names.
+# Placeholders in names.
 PLACEHOLDER = re.compile(r"NAME|FILE|CRATE|FUNCTION|PREFIX|^[A-Z]/|^X[A-Z]|^t_view$|_$")
-# Files without backquotes: a path there begins with a folder of the top, or ends like a source.
+# Files that don't use backquotes. There a path begins with a folder of the top, or ends like a source.
 PLAIN = ["Makefile", "include/bootmem.h", "bootmem.1", "bootmem.5", "bootaudit.1"]
 PLAIN_PATH = re.compile(r"(?<![\w./-])(?:(?:bench|bindings|crates|docs|examples|include|tests|tools)/[\w.*/-]*\w"
                         r"|\w+\.(?:antt|md|py|rt)\b)")
 TITLE = re.compile(r'`(?:docs/)?(\w+\.md)`(?: \(|, )"([^"]+)"')
 TITLE_FIRST = re.compile(r'"([^"]+)" (?:of|in) `(?:docs/)?(\w+\.md)`')
-# Documents whose names in backquotes are those of the code.
+# Documents in which a name in backquotes is a name of the code.
 OF_CODE = {"CONTRIBUTING.md", "docs/ARCHITECTURE.md", "docs/ATTACKS.md", "docs/HEADLINE.md", "docs/PROOF.md", "docs/GLOSSARY.md"}
 IDENTIFIER = re.compile(r"[a-z]\w*_\w+|(?:[A-Z][a-z0-9]+){2,}")
 
@@ -47,14 +47,14 @@ def headings(name):
 
 
 def anchor(heading):
-    """A heading as the part of a link after #."""
+    """The part of a link after # that leads to a heading."""
     return re.sub(r"[^\w -]", "", heading.lower()).replace(" ", "-")
 
 
 @functools.cache
 def paths():
-    """The paths of all files and folders, each also without its first folders and without the
-    suffix of a source."""
+    """The paths of all files and folders. Each is also there without its first folders, and without
+    the suffix of a source."""
     found = set()
     for folder, folders, files in os.walk(TOP):
         folders[:] = [name for name in folders if name not in ("out", ".git")]
@@ -80,7 +80,7 @@ def words_of_sources():
 
 
 def names_in(document):
-    """What a document names, each with whether it exists."""
+    """Each name in a document, and whether it exists."""
     text, folder = read(document), os.path.dirname(document)
     folder += "/" if folder else ""
     prose = re.sub(r"```.*?```|^    .*?$", "", text, flags=re.DOTALL | re.MULTILINE)

@@ -1,13 +1,13 @@
 #!/usr/bin/env python3
-"""pins.py [--table]: whether each wrong body says which clause refuses it, whether there is such a
-clause, and whether none is missing that a promise names.
+"""pins.py [--table]: checks that each wrong body names the clause that refuses it, that this clause
+exists, and that every wrong body that a promise names is there.
 
-The first line of each crates/NAME/must-fail/*.edit is `# pins: FUNCTION clause CLAUSE`, where `: `
-and a reason may follow. FUNCTION stands in the crate's src/ and has an ensures of that name (1: its
-one ensures without a name; invariant: that of a type; from_gives: that of an impl of From); a
-method's may stand in a trait, also of another crate. An edit changes files of src/ alone, and the
-text that it replaces stands once in its file. Whether the prover refuses it is what `rt must-fail`
-tries. --table prints crate, wrong body, clause and reason of all of them, a line each.
+The first line of each crates/NAME/must-fail/*.edit is `# pins: FUNCTION clause CLAUSE`, and `: ` and
+a reason may follow. FUNCTION is defined in the crate's src/ and has an ensures of that name. The
+name 1 is its only ensures without a name, `invariant` that of a type, and `from_gives` that of an
+impl of From. The ensures of a method may be in a trait, also in another crate. An edit changes only
+files of src/, and the text that it replaces occurs once in its file. `rt must-fail` tries whether
+the prover refuses it. --table prints one line per wrong body: crate, name, clause and reason.
 """
 
 import glob
@@ -19,9 +19,9 @@ sys.dont_write_bytecode = True
 
 from documents import TOP, read
 
-# the wrong bodies that a promise names, in the order of the boot: these never go
+# The wrong bodies that a promise names, in the order of the boot. These must never be removed.
 PROMISED = {
-    # the profile of Linux 6.1
+    # profile of Linux 6.1
     "boot_model/extra-own-own_profile_rounds",
     "boot_stages/added-added_by_run-rounded_before_partial_frames_count",
     "boot_stages/later-run_stages-claims_ids_forgotten",
@@ -29,7 +29,7 @@ PROMISED = {
     "crash_kernel/request-bounded_size_for_total-range_after_the_refused_one",
     "crash_kernel/request-rounded_total-rounded_down",
     "zone_spans/hull-add_zone_parts_of_hull-hull_of_all_nodes_so_far",
-    # the firmware's map
+    # firmware map
     "e820_model/run-join-later_entry_wins",
     "boot_stages/map-append_and_sanitise-edits_act_on_unsettled_claims",
     # memory, searches and the tables' growth
@@ -73,13 +73,13 @@ COMMENT = re.compile(r"^[ \t]*//.*$", re.M)
 
 
 def text_of(crate, folder):
-    """All files of a folder of a crate, as one text."""
+    """The files of a folder of a crate, joined to one text."""
     paths = sorted(glob.glob(f"{TOP}/crates/{crate}/{folder}/**/*", recursive=True))
     return "\n".join(read(path) for path in paths if os.path.isfile(path))
 
 
 def contract_end(source, match):
-    """Where a contract ends: at the brace of its body, or at a semicolon outside of all clauses."""
+    """The place at which a contract ends: the brace of the body, or a semicolon outside of all clauses."""
     body = source.find("\n" + match.group(1) + "{", match.end())
     depth = 0
     for at in range(match.end(), len(source) if body < 0 else body):
@@ -91,7 +91,7 @@ def contract_end(source, match):
 
 def clauses(source):
     """The names of the clauses of each function of a text."""
-    source = COMMENT.sub("", source)  # which may have a semicolon or a brace
+    source = COMMENT.sub("", source)  # a comment may contain a semicolon or a brace
     found = {}
     for match in CONTRACT.finditer(source):
         contract = source[match.start() : contract_end(source, match)]
@@ -101,7 +101,7 @@ def clauses(source):
 
 
 def has_clause(match, source, own, anywhere):
-    """Whether there is the clause that a first line pins: in its crate, or a method's anywhere."""
+    """Whether the clause that a first line names exists: in its crate, or for a method in any crate."""
     of_type, function, clause, _ = match.groups()
     if clause == "invariant":
         model = rf"impl(?:<[^{{]*>)? Model for {function}\b"
@@ -114,7 +114,7 @@ def has_clause(match, source, own, anywhere):
 
 
 def faults_of_text(crate, lines):
-    """What is wrong with the files of an edit, and with the first text that it replaces."""
+    """Faults in the names of the files that an edit changes, and in the first text that it replaces."""
     text = ""
     for line in lines:
         if line.startswith("file: "):
@@ -124,7 +124,7 @@ def faults_of_text(crate, lines):
             text = read(f"{TOP}/crates/{crate}/{line[6:]}")
         if line.startswith("old: "):
             if text.count(line[5:]) != 1:
-                yield f"what it replaces stands {text.count(line[5:])} times in its file"
+                yield f"the text that it replaces occurs {text.count(line[5:])} times in its file"
             return
 
 
@@ -153,7 +153,7 @@ def main():
             name = f"{of_type}::{function}" if of_type else function
             print(f"{crate}\t{edit}\t{name} clause {clause}\t{reason or ''}")
     missing = sorted(PROMISED - names)
-    wrong += [f"{name}: a promise names this wrong body, and it isn't there" for name in missing]
+    wrong += [f"{name}: a promise names this wrong body, but it doesn't exist" for name in missing]
     for line in wrong:
         print(line, file=sys.stderr)
     if "--table" not in sys.argv[1:]:

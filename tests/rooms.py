@@ -1,10 +1,9 @@
 #!/usr/bin/env python3
-"""rooms.py: checks that docs/ARCHITECTURE.md has each crate of crates.txt exactly once, and that its
-drawings name each; and that no crate uses one of a storey above its own.
+"""rooms.py: checks that docs/ARCHITECTURE.md has a row for each crate of crates.txt, exactly once, that
+its drawings name each crate, and that no crate uses a crate of a storey above its own.
 
 A row is `| crate | what it is | what the crates above may rest on |`. The drawings above the tables
-show the data flow and the storeys. A crate uses only crates of its own storey and of those below.
-Crates of cases are in neither.
+show the data flow and the storeys. Neither tables nor drawings have the crates of worked cases.
 Prints a line for each difference, and how many crates there are.
 """
 

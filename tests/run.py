@@ -1,13 +1,13 @@
 #!/usr/bin/env python3
-"""run.py [PROGRAM [TEST..]]: runs every test of this folder over the program, ./bootmem if none
-is named, or the tests that the words name: a module without its test_, such as draw, a script,
-such as shown.sh, or `modules`, all modules. `run.py --sources` runs those that need no program:
-they compare documents with sources.
+"""run.py [PROGRAM [TEST..]]: runs the tests of this folder over a program, which is ./bootmem unless
+one is named. TEST is a module without its test_, such as draw; a script, such as shown.sh; or
+`modules`, which is all modules. Without TEST every test runs. `run.py --sources` runs the tests
+that compare documents with sources; they need no program.
 
-A module prints a line with how many tests and comparisons it has; so does a script that counts.
-A failure prints its test, what was compared, the command that ran before it, and what came and
-what was wanted. A test that lacks a tool of the system is left out, with a line. The status is 0
-if none failed. It needs no root and no network.
+A module prints a line with the numbers of its tests and comparisons; so does a script that counts
+them. A failure prints the test, what was compared, the last command that ran, the value that it
+got and the value that it expected. A test that needs a tool that the system lacks is left out, and
+a line says so. The status is 0 if none failed. The tests need neither root nor a network.
 """
 
 import glob
@@ -23,8 +23,8 @@ import unittest
 sys.dont_write_bytecode = True
 HERE = os.path.dirname(os.path.abspath(__file__))
 TOP = os.path.dirname(HERE)
-# Scripts with the words of each; those that need more than the program are left out if it isn't
-# there.
+# Scripts, and the words of each. A script that needs more than the program is left out if that is
+# missing.
 SCRIPTS = {"pins.py": [], "rooms.py": [], "named.py": [], "definitions.py": [], "real_boots.sh": ["PROGRAM"],
            "audits.sh": ["PROGRAM", "AUDIT"], "outside.sh": ["PROGRAM"], "collect.sh": [], "install.sh": [], "shown.sh": ["PROGRAM"],
            "library.sh": ["PROGRAM"]}
@@ -34,23 +34,23 @@ NEEDED = {"library.sh": ["libbootmem.a"], "audits.sh": ["bootaudit"],
 
 
 class Result(unittest.TextTestResult):
-    """A result whose failures are their own words, without a traceback."""
+    """A test result that prints failed comparisons without a traceback."""
 
     def _exc_info_to_string(self, err, test):
-        """A comparison's failure as it says it; of anything else the traceback."""
+        """The message of a failed comparison; for any other error, the traceback."""
         text = super()._exc_info_to_string(err, test)
         return str(err[1]) + "\n" if issubclass(err[0], AssertionError) and "\n    ran " in str(err[1]) else text
 
 
 def run_module(name):
-    """Runs the tests of a module: its line, what failed or was left out, and whether all is
-    well."""
+    """Runs the tests of a module. Returns its line, the lines on what failed or was left out,
+    whether all is well, and the number of comparisons."""
     sys.path.insert(0, HERE)
     from support import Counted
     before, said = Counted.checks, io.StringIO()
     try:
         suite = unittest.defaultTestLoader.loadTestsFromName(f"test_{name}")
-    except Exception:  # whatever a module fails with is told, and the others run
+    except Exception:  # it is reported, and the other modules run
         return f"{name}: it can't be loaded", traceback.format_exc().splitlines(), False, 0
     result = unittest.TextTestRunner(stream=said, resultclass=Result, verbosity=0).run(suite)
     lines = [f"{name}: left out: {why}" for _, why in result.skipped]
@@ -62,7 +62,8 @@ def run_module(name):
 
 
 def run_script(name):
-    """Runs a script: its last line, what it says else, and whether its status is 0."""
+    """Runs a script. Returns its last line, its other lines, whether its status is 0, and the number
+    of comparisons."""
     lacks = [file for file in NEEDED.get(name, []) if not os.path.exists(os.path.join(TOP, file))]
     if lacks:
         return f"{name}: left out: there is no ./{lacks[0]}", [], True, 0
@@ -79,7 +80,7 @@ def run_one(name):
 
 
 def main(words):
-    """Runs the tests that the words name; the status."""
+    """Runs the tests that the words name. Returns the status."""
     if words == ["--sources"]:
         return run_all(SOURCES)
     program = os.path.abspath(words[0] if words else os.path.join(TOP, "bootmem"))
@@ -98,8 +99,8 @@ def main(words):
 
 
 def run_all(names):
-    """Runs these tests, as many at once as there are processors, and prints what each came to;
-    the status."""
+    """Runs these tests, as many at once as there are processors, and prints the result of each.
+    Returns the status."""
     well, total = True, 0
     with multiprocessing.Pool(len(os.sched_getaffinity(0)), maxtasksperchild=1) as pool:
         for line, lines, passed, checks in pool.imap(run_one, names, chunksize=1):

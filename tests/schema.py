@@ -1,4 +1,4 @@
-"""Whether a value fits docs/reports.schema.json, by as much of JSON Schema as that file uses."""
+"""Checks values against docs/reports.schema.json. Only the parts of JSON Schema that this file uses are implemented."""
 
 import json
 import os
@@ -11,7 +11,7 @@ KINDS = {"object": dict, "array": list, "string": str, "integer": int, "boolean"
 
 
 def fits(value, schema, place="$"):
-    """Why a value doesn't fit a schema, or None: of JSON Schema what docs/reports.schema.json uses."""
+    """The reason why a value doesn't fit a schema, or None if it fits."""
     if "$ref" in schema:
         return fits(value, SCHEMA["$defs"][schema["$ref"].rpartition("/")[2]], place)
     if "anyOf" in schema:
