@@ -1,4 +1,4 @@
-"""What the installed commands say after a refusal: for words and files that the program refuses, which of them is wrong, and why."""
+"""The second line that the installed commands print after a refusal: which word or file is wrong, and why."""
 
 import os
 import subprocess
@@ -8,7 +8,7 @@ from support import MACHINE, PROGRAM, TOP, Case, bytes_of, example, ran, rows_of
 from bootmem_tools import explain
 from bootmem_tools.words import BOOTMEM61, OPTIONS
 
-# Words, and what is said of them; the program ends with 2 for each.
+# The words of a run, and the line that explains what is wrong. The program ends with status 2 for each.
 USAGE = rows_of("""
  | no zero page is named: bootmem [OPTION].. ZEROPAGE; 'bootmem --help' lists the options
 --cmdlin line zp | --cmdlin: no such option; did you mean --cmdline?
@@ -74,15 +74,15 @@ a b --version | --version: must be the first word
 
 
 def split(text):
-    """The words of a row, which blanks separate."""
+    """The words of a row; they are separated by blanks."""
     return text.split()
 
 
 class Explained(Case):
-    """The line after the program's own."""
+    """The line that follows the program's own."""
 
     def test_usage(self):
-        """Each of these words is refused by the program, and the line names the one that is wrong."""
+        """The program refuses each row, and the line names the wrong word."""
         for text, why in USAGE:
             self.check(f"bootmem {text}", ran([PROGRAM, *split(text)])[0], 2)
             self.check(f"bootmem {text}: why", explain.explain("bootmem", 2, split(text)), why)
@@ -94,7 +94,7 @@ class Explained(Case):
                    (2, f"--mirror {many}: 65 ranges; at most 64"))
 
     def test_usage61(self):
-        """Words of bootmem61; the program is there only where it was built."""
+        """Wrong words of bootmem61. The program itself runs only if it has been built."""
         for text, why in USAGE61:
             if os.path.exists(BUILT61):
                 self.check(f"bootmem61 {text}", ran([BUILT61, *split(text)])[::2], (2, b"bootmem61: usage\n"))
@@ -105,7 +105,7 @@ class Explained(Case):
                                                                if explain.explain("bootmem61", 2, [f"--{name}"] * 2) is None], [])
 
     def test_audit(self):
-        """Words of bootaudit; the program is there only where it was built."""
+        """Wrong words of bootaudit. The program itself runs only if it has been built."""
         audit = os.path.join(TOP, "bootaudit")
         for text, why in AUDIT:
             if os.path.exists(audit):
@@ -141,7 +141,7 @@ class Explained(Case):
         self.check("nothing to say of files that can be read", explain.explain("bootmem", 3, ["/dev/null"]), None)
 
     def test_checksum(self):
-        """The checksum that a table should have, and nothing of other faults; the program refuses exactly these tables for it."""
+        """If the program refuses a table for its checksum, the line has the right checksum. For other faults there is no line."""
         write(self.path("zp"), zero_page(MACHINE))
         whole = bytes_of(example("q35-8g-numa2", "srat.bin"))
         for table, line, why in ((whole, None, None), (unsealed(whole), "bootmem: srat: checksum",

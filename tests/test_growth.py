@@ -1,8 +1,8 @@
-"""The two tables where they need a new place and there is hardly one: no place at all, the only one, one
-that needs the other table to grow as well, and a place that is left and can't be given back.
+"""Growth of memblock's two tables when memory for the new table is scarce: there is no gap, or a single one; the claim of the new place
+makes the other table grow as well; or the old place can't be released.
 
-Each case has a name that says what it shows. The lines are those of the journal, or what came of a script's lines, by their
-numbers; or the whole report `tables`.
+The name of a case says what it shows. Its text is the whole report `tables`, or some lines of the journal or of the report `script`,
+which are found by their numbers.
 """
 import unittest
 
@@ -13,7 +13,7 @@ MAIN = (0x100000, 0x7F00000, RAM)
 
 
 def pages(count, base, kind):
-    """Single pages of a type with a page between each two, from two pages above the base on."""
+    """Single pages of this type, one page apart. The first one is two pages above the base."""
     return [(base + place * 0x2000, 0x1000, kind) for place in range(1, count + 1)]
 
 
@@ -30,15 +30,15 @@ def near(count):
 
 
 def reserves(first, last, base):
-    """A line for each ID that reserves one byte, with a hole before each."""
+    """Lines of a script: each reserves one byte, and the bytes don't touch. The IDs are first to last."""
     return "".join(f"reserve {number} 0x{base + number * 0x2000:x} 1\n" for number in range(first, last + 1))
 
 
-# All memory above 1 MiB is claimed, the sections' places among it: one record of the reserved table.
+# A script that claims all memory above 1 MiB. With the sections' places it is one record of the reserved table.
 FULL = "sections\nreserve 9001 0x100000 0xF00000\nreserve 9002 0x3000000 0x4FB0000\n"
 ABOVE = 0x100000000
 HERE = 0x4000000
-# A machine of 128 MiB: with the kernel's image, the first MiB and the data of node 0 three records are reserved before the script.
+# A machine of 128 MiB. Before the script it has three reserved records: the kernel's image, the first MiB and the data of node 0.
 PC = MACHINE + [(0x7FE0000, 0x20000, RESERVED)]
 
 NO_MEMORY_PLACE = "bootmem: stopped: no place for table memory room 128"
@@ -47,17 +47,17 @@ NO_RESERVED_PLACE = "bootmem: stopped: no place for table reserved room 128"
 # name, entries, line on standard error
 STOPPED = [
     ("the memory table has no place below 1 MiB", [MAIN] + near(128), NO_MEMORY_PLACE),
-    ("the only gap is a frame too small", [(0x10000, 0x1000, RAM), MAIN] + near(127), NO_MEMORY_PLACE),
+    ("the only gap is one frame too small", [(0x10000, 0x1000, RAM), MAIN] + near(127), NO_MEMORY_PLACE),
     ("two gaps of a frame each", [(0x10000, 0x1000, RAM), (0x12000, 0x1000, RAM), MAIN] + near(126), NO_MEMORY_PLACE),
-    ("the first 64 KiB are no place", [(0x1000, 0xF000, RAM), MAIN] + near(127), NO_MEMORY_PLACE),
+    ("no table is placed in the first 64 KiB", [(0x1000, 0xF000, RAM), MAIN] + near(127), NO_MEMORY_PLACE),
     ("the reserved table has no place below 1 MiB", [MAIN] + soft(127), NO_RESERVED_PLACE),
-    ("a place for the memory table, and then none for the reserved one",
+    ("a place for the memory table, but then none for the reserved one",
      [(0x11000, 0x2000, RAM), MAIN] + soft(126) + high(127), NO_RESERVED_PLACE),
 ]
 
 # name, entries, script, report, text
 WENT_ON = [
-    ("128 records of memory need no other place below 1 MiB", [MAIN] + near(127), "", "tables", """\
+    ("128 memory records fit into the first table", [MAIN] + near(127), "", "tables", """\
 memory place 0x0000000007ffe000 room 256 records 128
 reserved place 0x0000000002fff000 room 128 records 6
 """),
@@ -96,14 +96,14 @@ reserved place 0x0000000002fff000 room 128 records 6
 390: free 0x000000000009e000..0x000000000009ffff
 391: mem 0x00000000101fe000..0x00000000101fefff
 """),
-    ("that growth is refused, and the old place stays claimed", [(0x11000, 0x5000, RAM), MAIN] + soft(124) + high(255), "", "journal",
+    ("that growth fails, and the old place stays claimed", [(0x11000, 0x5000, RAM), MAIN] + soft(124) + high(255), "", "journal",
      """\
 386: claim table-memory 0x0000000000011000..0x0000000000013fff
 387: grown memory 0x0000000000011000 room 512
 388: mem 0x00000000101fe000..0x00000000101fefff
 389: trim
 """),
-    ("the memory table leaves its first place before the nodes are set", [(0x0, 0x9F000, RAM), MAIN] + near(253), "", "journal", """\
+    ("the memory table moves before the nodes are set", [(0x0, 0x9F000, RAM), MAIN] + near(253), "", "journal", """\
 132: claim table-memory 0x000000000009d000..0x000000000009efff
 133: grown memory 0x000000000009d000 room 256
 134: mem 0x00000000080fe000..0x00000000080fefff
@@ -113,7 +113,7 @@ reserved place 0x0000000002fff000 room 128 records 6
 266: free 0x000000000009d000..0x000000000009efff
 267: node 0 0x0000000000000000..0x00000000081fafff
 """),
-    ("the place that a table left holds zeros, its new one the records", [(0x0, 0x9F000, RAM), MAIN] + near(253),
+    ("a table's old place holds zeros, its new one the records", [(0x0, 0x9F000, RAM), MAIN] + near(253),
      "peek 0x9d000 24\npeek 0x9e7e8 24\npeek 0x7ffd000 24\n", "script", """\
 1: bytes 000000000000000000000000000000000000000000000000
 2: bytes 000000000000000000000000000000000000000000000000
@@ -132,7 +132,7 @@ reserved place 0x0000000002fff000 room 128 records 6
 138: claim script 126 0x00000000040fc000..0x00000000040fc000
 139: claim roots 0x0000000007faf000..0x0000000007fb2fff
 """),
-    ("it grows again, and what fits goes to the place that it left", PC, reserves(1, 260, HERE), "journal", """\
+    ("it grows again, and an allocation goes to its old place", PC, reserves(1, 260, HERE), "journal", """\
 265: claim script 253 0x00000000041fa000..0x00000000041fa000
 266: grown reserved 0x0000000007fb0000 room 512
 267: claim table-reserved 0x0000000007fb0000..0x0000000007fb2fff
@@ -144,14 +144,14 @@ reserved place 0x0000000002fff000 room 128 records 6
 278: claim usage 0 0x0000000007fb3fc0..0x0000000007fb3fe7
 279: claim map 0 0x0000000007c00000..0x0000000007dfffff
 """),
-    ("no place above what is claimed, so the table's is below it", PC, reserves(1, 125, HERE) + "reserve 500 0x7000000 0xfb5000\n",
+    ("no place above the claimed range, so the table lies below it", PC, reserves(1, 125, HERE) + "reserve 500 0x7000000 0xfb5000\n",
      "journal", """\
 136: grown reserved 0x0000000006ffe000 room 256
 137: claim table-reserved 0x0000000006ffe000..0x0000000006ffffff
 138: claim script 500 0x0000000007000000..0x0000000007fb4fff
 139: claim roots 0x0000000006ffa000..0x0000000006ffdfff
 """),
-    ("the place that is to be claimed isn't the table's", PC, reserves(1, 125, HERE) + "alloc 500 4K 4K\n", "journal", """\
+    ("the new table doesn't meet the range that is being claimed", PC, reserves(1, 125, HERE) + "alloc 500 4K 4K\n", "journal", """\
 136: grown reserved 0x0000000007fb2000 room 256
 137: claim table-reserved 0x0000000007fb2000..0x0000000007fb3fff
 138: claim script 500 0x0000000007fb4000..0x0000000007fb4fff
@@ -195,7 +195,7 @@ reserved place 0x0000000002fff000 room 128 records 6
 142: claim table-reserved 0x0000000007fad000..0x0000000007faefff
 143: free 0x00000001000f8000..0x00000001000f8000
 """),
-    ("a frame is free, and the release is refused", PC,
+    ("one frame is free, and the release is refused", PC,
      FULL.replace("0x4FB0000", "0x4FAE000") + reserves(1, 124, ABOVE) + "free 124\n", "script", """\
 127: done
 128: no gap for table reserved room 128
@@ -204,13 +204,13 @@ reserved place 0x0000000002fff000 room 128 records 6
 
 
 def numbered(report, text):
-    """The lines of the report whose numbers the text has."""
+    """The lines of the report that have the same numbers as lines of the text."""
     numbers = {line.split(":")[0] for line in text.splitlines()}
     return "".join(line for line in report.splitlines(keepends=True) if line.split(":")[0] in numbers)
 
 
 class Growth(Case):
-    """Where the tables find a new place, or none."""
+    """Tables that grow, and tables that can't."""
 
     def test_stopped(self):
         for name, entries, line in STOPPED:

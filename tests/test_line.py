@@ -1,4 +1,5 @@
-"""bootmem-line: the boots' own lines, the size that a kernel picks of ranges, and each rule by which it reads a line otherwise."""
+"""bootmem-line: the command lines of examples/, the size that a kernel picks from ranges, and each rule by which the kernel reads a line
+differently from the program."""
 
 import re
 import unittest
@@ -15,13 +16,15 @@ AREAS = (
     ("hugetlb_cma=1G", "areas are", "hugetlb_cma_reserve"),
 )
 
-# Ranges as distributions have them, and the size that the kernel takes by them on a virtual machine of so many bytes.
+# Two lists of ranges as distributions have them. MACHINES has the sizes of virtual machines, each with the crash area that a kernel picks
+# from either list.
 FIRST, SECOND = "1G-4G:192M,4G-64G:256M,64G-:512M", "2G-4G:320M,4G-32G:512M,32G-64G:1G,64G-128G:2G,128G-:4G"
 
 MACHINES = ((512 * MIB, None, None), (GIB, "192M", None), (2 * GIB, "192M", "320M"), (4 * GIB, "256M", "512M"),
             (8 * GIB, "256M", "512M"), (64 * GIB, "512M", "2G"), (128 * GIB, "512M", "4G"))
 
-# A line, what is printed for it on a machine of 4,095 MiB, = for the same, with which the status is 0, and a part of what is said.
+# A command line; the line that the tool prints for it on a machine of 4,095 MiB; and a part of its message. `=` is the unchanged line, for
+# which the status is 0.
 RULES = rows_of(r"""
 quiet mem=768M memmap=64M!512M crashkernel=64M@16M | = |
 quiet mem=4GB | quiet mem=4G | word 2: mem=4GB: read as mem=4G
@@ -65,7 +68,7 @@ class Line(Case):
     """Command lines as the kernel reads them."""
 
     def test_boots(self):
-        """The line of every boot is printed as it is."""
+        """The line of every boot of examples/ is printed unchanged."""
         for name in BOOTS:
             extension = ["--e820ext", "e820ext.bin"] if has_file(name, "e820ext.bin") else []
             status, out, err = tool("bootmem-line", *extension, "cmdline", "zp.bin", folder=example(name))
@@ -77,7 +80,8 @@ class Line(Case):
             self.check(f"line {name}: said", re.sub(r"(?m)^bootmem-line: word \d+: ", "", err), said)
 
     def test_ranges(self):
-        """The size that the kernel picks, which rounds total memory up to 128 MiB, on seven machines; the program then finds that size."""
+        """The size that the kernel picks on seven machines, from total memory rounded up to a multiple of 128 MiB. The program then
+        claims that size."""
         for size, *wanted in MACHINES:
             write(self.path("zp"), zero_page(machine_of(size)))
             for ranges, said in zip((FIRST, SECOND), wanted):
@@ -91,7 +95,7 @@ class Line(Case):
                 self.check(f"ranges {size >> 20} MiB {ranges}: said", (status, kept or out), (0, True) if kept else
                            (1, f"quiet crashkernel={said}\n"))
                 self.check(f"ranges {size >> 20} MiB {ranges}: why", "(parse_crashkernel_mem)" in err, not kept)
-        # a firmware's partial frame counts, with a whole one beside it: 512 MiB in whole frames, and 3 KiB more
+        # memblock_trim_memory drops a partial frame beside whole ones, but leaves it in the total: 512 MiB in whole frames and 3 KiB
         write(self.path("zp"), zero_page([(0, 0x9FC00, 1), (MIB, 512 * MIB - 0x9E000, 1)]))
         self.check("ranges, trimmed bytes", tool("bootmem-line", "-", "zp", given="crashkernel=600M-:64M", folder=self.work)[:2],
                    (1, "crashkernel=64M\n"))
@@ -101,7 +105,7 @@ class Line(Case):
         self.check("ranges, no machine", tool("bootmem-line", given="crashkernel=1G-:64M")[:2], (2, ""))
 
     def test_rules(self):
-        """Each rule by which the kernel reads a line otherwise than the program, once; the program takes each line that is printed."""
+        """Each rule by which the kernel reads a line differently from the program. The program accepts every line that is printed."""
         page = self.path("zp")
         write(page, zero_page(machine_of(4 * GIB)))
         for line, printed, part in RULES:

@@ -1,7 +1,7 @@
-"""The page script behind the handover: blocks that are split and joined again, requests until nothing is left and
-gives in another order, the borders of zones and nodes, and lines near a node.
+"""The page script, which runs after the handover: blocks that are split and merged again, requests until nothing is left, gives in another
+order, the borders of zones and nodes, and requests near a node.
 
-Each case has a name that says what it shows. Where everything was given back the report `pagesinfo` is the text of `buddyinfo`.
+The name of a comparison says what it shows. Once everything has been given back, the report `pagesinfo` equals `buddyinfo`.
 """
 import random
 import unittest
@@ -36,7 +36,7 @@ class Pages(Case):
     """The page script."""
 
     def test_taken_and_given(self):
-        """Requests of random orders until none is served any more, and gives in another order: all blocks are joined again."""
+        """After requests of random orders until none succeeds, and gives in another order, all blocks are merged again."""
         random.seed(6)
         for order in (0, 3, 9, 10):
             asked = [f"pages {number} {order} 0 {zone}" for number, zone in enumerate(ZONES * (3 if order > 8 else 40))]
@@ -50,10 +50,10 @@ class Pages(Case):
         gives = [f"give {number}" for number in random.sample(range(2000), 2000)]
         before, answers, after = reports_of(MACHINE, asked + gives)
         self.check("requests of every order until nothing is left", "no block" in outcomes(answers), True)
-        self.check("and given back: all is as it was", after, before)
+        self.check("after all gives the free blocks are as before", after, before)
 
     def test_split_and_joined(self):
-        """A frame out of a block of order 10 leaves a block of each order; given back it is one block again."""
+        """A frame that is taken from a block of order 10 leaves one block of each lower order. Once it is given back, they merge again."""
         lines = ["pages 1 0 0 DMA32"]
         plain, _, _ = reports_of([(0x1000000, 0x4000000, RAM)] + [(0, 0x1000, RAM)], [])
         counts = [int(number) for number in plain[-1].split()[4:]]
@@ -61,23 +61,23 @@ class Pages(Case):
         split = [int(number) for number in after[-1].split()[4:]]
         low = next(order for order, count in enumerate(counts) if count)
         wanted = [count + (1 if order < low else 0) - (1 if order == low else 0) for order, count in enumerate(counts)]
-        self.check("a frame is split from the least block", split, wanted)
+        self.check("a frame is split off the smallest block", split, wanted)
         before, answers, after = reports_of([(0x1000000, 0x4000000, RAM)] + [(0, 0x1000, RAM)], lines + ["give 1"])
-        self.check("and joined up again", after, before)
+        self.check("and merged again", after, before)
 
     def test_borders(self):
-        """A zone and a node serve with their own blocks alone, and what comes back isn't joined across their border."""
+        """A request for a zone of a node takes only blocks of that zone. Blocks that are given back don't merge across its border."""
         extra = (("--srat", DOMAINS),)
         before, answers, after = reports_of(TWO_NODES, ["pages 1 10 1 DMA", "pages 2 10 1 DMA32", "pages 3 10 1 Normal", "pages 4 0 2 DMA32",
                                                               "give 3", "give 2", "give 1"], extra)
         got = outcomes(answers)
-        self.check("a zone that the node hasn't, and a node that isn't there", (got[0], got[3]), ("no block", "no block"))
+        self.check("a zone that the node lacks, and a node that doesn't exist", (got[0], got[3]), ("no block", "no block"))
         self.check("blocks of the node's own zones", (0x6000000 <= int(got[1][3:], 16) < 0x8000000, int(got[2][3:], 16) >= FOUR_GIB), (True, True))
         self.check("given back on both sides of a border", after, before)
-        self.check("nothing to give", got[4:], ["done", "done", "unknown"])
+        self.check("gives of blocks, and of an ID that holds nothing", got[4:], ["done", "done", "unknown"])
 
     def test_near_a_node(self):
-        """A line near a node takes from the nearest zone that can serve: Normal first, and another node once its own have nothing left."""
+        """A line `near` takes blocks from the node's own zones, Normal first, and from another node once these have none."""
         extra = (("--srat", DOMAINS), ("--slit", slit(2, [10, 20, 20, 10])))
         lines = ["near 1 10 1"] + [f"near {number} 10 1" for number in range(2, 60)] + ["near 1 0 1"]
         _, answers, _ = reports_of(TWO_NODES, lines, extra)

@@ -1,7 +1,6 @@
 """Worked examples of whole boots: inputs, words and the reports that the program prints for them.
 
-A row of the table is one run. A report is compared whole, or by the lines that a row names (`Lines`), which stand one after another in it. Each row
-has a name that says what it shows.
+A row of the table is one run, and its name says what it shows. A report is compared as a whole, or by successive lines in it (`Lines`).
 """
 
 import unittest
@@ -23,40 +22,40 @@ THREE_NODES = srat(memory_of(0, 0, 0x4000000), memory_of(1, 0x4000000, 0x2000000
 
 
 class Lines(str):
-    """Lines that stand one after another in a report."""
+    """Successive lines of a report."""
 
     def fit(self, report):
         return ("\n" + report).count("\n" + self) == 1
 
 
 def pages_of_ram(last):
-    """Memory up to 128 MiB, and single pages of RAM above it with a page between each two."""
+    """Memory up to 128 MiB, and single pages of RAM above it, one page apart."""
     return [(0x0, 0x9F000, RAM), (0x100000, 0x7F00000, RAM)] + [(0x8000000 + place * 0x2000, 0x1000, RAM) for place in range(1, last + 1)]
 
 
 def soft_pages(count):
-    """Single soft-reserved pages from 4 GiB on, each of which is a record of the reserved table."""
+    """Single soft-reserved pages from 4 GiB on. Each is a record of its own in the reserved table."""
     return [(FOUR_GIB + place * 0x2000, 0x1000, SOFT) for place in range(count)]
 
 
 def single_pages(count):
-    """Single pages of RAM from 256 MiB on, with a page between each two, and nothing else."""
+    """Single pages of RAM from 256 MiB on, one page apart, and no other memory."""
     return [(0x10000000 + place * 0x2000, 0x1000, RAM) for place in range(count)]
 
 
 def reserves(count, base):
-    """A line for each ID from 1 on that reserves one byte, with a hole before each."""
+    """Lines of a script: each reserves one byte, and the bytes don't touch. The IDs begin with 1."""
     return "".join(f"reserve {number} 0x{base + number * 0x2000:x} 1\n" for number in range(1, count + 1))
 
 
 def machine(entries, **inputs):
-    """The files of a machine, by the names of their options: a text is a file's bytes in ASCII."""
+    """The files of a machine, by the names of their options. A text is encoded as ASCII."""
     files = {{"ext": "e820ext"}.get(name, name): held for name, held in machine_files(entries)[1].items()}
     return files | {name: held.encode() if isinstance(held, str) else held for name, held in inputs.items()}
 
 
 def initrd(loader):
-    """The machine of 128 MiB with an initrd of 0x123457 bytes at 0x7d00000, which counts if a loader is named."""
+    """The machine of 128 MiB with an initrd of 0x123457 bytes at 0x7d00000. It counts only if `loader` isn't 0."""
     return {"zp": zero_page(PC, loader=loader, image=0x7D00000, size=0x123457)}
 
 
@@ -81,7 +80,7 @@ JOURNAL = """\
 14: claim map 0 0x0000000007c00000..0x0000000007dfffff
 """
 NO_FREE_BLOCK = "".join(f"Node 0, zone {zone:>8} {' '.join('     0' for _ in range(11))} \n" for zone in ("DMA", "DMA32"))
-# The script claims all memory that is left, then 128 bytes above 4 GiB, each a record of its own.
+# A script that claims all memory that is left, then 128 single bytes above 4 GiB, each a record of its own.
 ALL_CLAIMED = "sections\nreserve 9001 0x100000 0xF00000\nreserve 9002 0x3000000 0x4FB0000\n" + reserves(128, FOUR_GIB)
 PAGES = "pages 1 0 0 DMA\npages 2 9 0 DMA\npages 3 10 1 DMA\npages 1 0 0 DMA\ngive 1\ngive 1\n"
 MIRRORED = ["--mirror", "0x4000000,0x1000000"]
@@ -111,7 +110,7 @@ PRINTED = [
 memory place 0x000000000009d000 room 256 records 129
 reserved place 0x0000000002fff000 room 128 records 6
 """}),
-    ("the memory table grows again at the node item, and its old place is free", machine(pages_of_ram(253)), [], {
+    ("the memory table grows again when the nodes are set, and its old place is free", machine(pages_of_ram(253)), [], {
         "tables": """\
 memory place 0x0000000007ffd000 room 512 records 255
 reserved place 0x0000000002fff000 room 128 records 7
@@ -175,7 +174,7 @@ section 0 node 0 map 0x0000000007a00000 usage 0x0000000007faffc0
 """}),
     ("what doesn't fit into mirrored memory goes elsewhere", machine(PC, script="alloc 1 0x2000000 0x1000\n"), MIRRORED,
      {"script": "1: at 0x0000000005fe0000\n"}),
-    ("the search from below places all data above 1 MiB", machine(PC), ["--bottom-up"], {"reserved": """\
+    ("with --bottom-up all data is placed from 1 MiB upwards", machine(PC), ["--bottom-up"], {"reserved": """\
    0: 0x0000000000000000..0x0000000000130027
    1: 0x0000000001000000..0x00000000031fffff
 """}),
@@ -211,7 +210,7 @@ Node 2: 2/DMA32 0/DMA32 0/DMA 1/DMA32
 ]
 
 NO_PLACE = "bootmem: stopped: no place for "
-# All memory is claimed before: 172 KiB of node data below 4 GiB, and what stands before it in a row.
+# The boot claims all of this memory before it stops: 172 KiB of node data, and the other ranges of a row.
 NODE_DATA = (0x8000000, 0x2B000, RAM)
 CRASH_AREA = (0x7000000, 0x1000000, RAM)
 WITH_ROOTS = (0x8000000, 0x2F000, RAM)
@@ -219,20 +218,21 @@ WITH_ROOTS = (0x8000000, 0x2F000, RAM)
 # name, files, further words, status, line on standard error
 ENDED = [
     ("a kernel above 2^46 needs --la57", machine(PC), KERNEL_ABOVE, 2, "bootmem: usage"),
-    ("126 records of memory leave room for the node item", machine(single_pages(126)), [], 6, NO_PLACE + "node-data 0"),
-    ("the memory table has no place at the node item", machine(single_pages(127)), [], 6, NO_PLACE + "table memory room 128"),
-    ("127 records leave room for the crash area", machine([CRASH_AREA, NODE_DATA, *soft_pages(124)], cmdline="crashkernel=16M"), [], 6,
+    ("126 memory records leave room for the one that the nodes add", machine(single_pages(126)), [], 6, NO_PLACE + "node-data 0"),
+    ("the memory table has no place when the nodes are set", machine(single_pages(127)), [], 6, NO_PLACE + "table memory room 128"),
+    ("127 reserved records leave room for the crash area", machine([CRASH_AREA, NODE_DATA, *soft_pages(124)], cmdline="crashkernel=16M"), [], 6,
      NO_PLACE + "roots"),
-    ("the reserved table has no place at the crash area", machine([CRASH_AREA, NODE_DATA, *soft_pages(125)], cmdline="crashkernel=16M"), [], 6,
+    ("the reserved table has no place when the crash area is claimed",
+     machine([CRASH_AREA, NODE_DATA, *soft_pages(125)], cmdline="crashkernel=16M"), [], 6,
      NO_PLACE + "table reserved room 128"),
-    ("127 records leave room for the roots of the sections", machine([WITH_ROOTS, *soft_pages(124)]), [], 6, NO_PLACE + "root 0"),
-    ("the reserved table has no place at the roots of the sections", machine([WITH_ROOTS, *soft_pages(125)]), [], 6,
+    ("127 reserved records leave room for the roots of the sections", machine([WITH_ROOTS, *soft_pages(124)]), [], 6, NO_PLACE + "root 0"),
+    ("the reserved table has no place when the roots are claimed", machine([WITH_ROOTS, *soft_pages(125)]), [], 6,
      NO_PLACE + "table reserved room 128"),
 ]
 
 
 def words_for(files, reports, more):
-    """The words that name these reports and files."""
+    """The words of a run with these reports and files, and `more` words."""
     words = ["--report", ",".join(reports), *more]
     for name in files:
         if name != "zp":
@@ -255,7 +255,7 @@ class Worked(Case):
     """Whole boots, worked out by hand."""
 
     def test_printed(self):
-        """The reports of each boot."""
+        """Boots that succeed: their reports."""
         for name, files, more, reports in PRINTED:
             names = list(reports)
             status, out, err = run_over(files, words_for(files, names, more))
@@ -266,7 +266,7 @@ class Worked(Case):
                 self.check(f"{name}: {report}", text if isinstance(text, Lines) and text.fit(got) else got, text)
 
     def test_ended(self):
-        """Boots that end with a line."""
+        """Boots that fail: their status and their line on standard error."""
         for name, files, more, status, line in ENDED:
             self.check(name, run_over(files, words_for(files, ["map"], more)), (status, "", line + "\n"))
 
