@@ -1,6 +1,6 @@
 """Each tool over input that it can't use: missing, unreadable, empty, truncated, binary and
-endless. It says one line, ends with its own status, and leaves nothing written; no run takes
-long or ends by a traceback."""
+endless. It prints one line, ends with its own status, and writes no file. No run takes long or
+prints a traceback."""
 
 import os
 import shutil
@@ -13,12 +13,12 @@ from support import MACHINE, PROGRAM, PROGRAM61, TOP, Case, Counted, bytes_of, c
 MAP = text_of(example("first", "map.txt"))
 LOG = "BIOS-provided physical RAM map:\nBIOS-e820: [mem 0x0-0x9fbff] usable\nBIOS-e820: [mem 0x100000-0x7fdffff] usable\n"
 CLAIMS = "MEMBLOCK configuration:\n reserved[0x0]\t[0x0-0xffff], 0x10000 bytes flags: 0x0\nmemblock_reserve: [0x9f000-0x9ffff] f+0x1/0x2\n"
-SECONDS = 60  # of a run
+SECONDS = 60  # limit for a run
 
-# Bytes that no input of a tool has: of none, of no text, and of a text that is something else.
+# Contents that no tool can use: nothing, bytes of every value, and bytes that aren't UTF-8.
 EMPTY, BINARY, LETTERS = b"", bytes(range(256)) * 16, b"\xff\xfe" * 3000
 
-# A tool with its words, in which INPUT is the input, its status for it, and a whole input.
+# A tool, its words (INPUT stands for the input), its status if the input is wrong, and a right input.
 READERS = [
     ("bootmem-where", ["1M", "INPUT"], 1, MAP),
     ("bootmem-draw", ["--output", "out", "INPUT"], 1, MAP),
@@ -30,7 +30,7 @@ READERS = [
     ("claims-from-log", ["--e820ext", "out", "--script", "script", "INPUT"], 1, CLAIMS),
     ("claims-from-log", ["--replay", "folder", "INPUT"], 1, CLAIMS),
 ]
-# The same for files that aren't texts: any bytes but those of such a file are refused.
+# A tool, its words and its status, for inputs that aren't texts. All wrong bytes are refused.
 FILES = [
     ("claims-from-log", ["--e820ext", "out", "--over", "INPUT", "--kernel", "16M,32M", "claims"], 1),
     ("bootmem-line", ["--e820ext", "INPUT", "ranges", "zp"], 2),
@@ -43,7 +43,7 @@ FILES = [
     ("bootmem-json", ["--", "--kernel", "16M,52M", "INPUT"], 1),
     ("bootmem-diff", ["--a", "--kernel 16M,52M zp", "--b", "--kernel 16M,52M INPUT"], 2),
 ]
-# Any bytes are a command line, so only what can't be read, or never ends, is refused.
+# Tools that read a command line. Any bytes are one, so only an unreadable or endless input is refused.
 LINES = [
     ("bootmem-line", ["INPUT"], 2),
     ("bootmem-crash", ["--kernel", "16M,52M", "--cmdline", "INPUT", "zp"], 2),
@@ -64,7 +64,7 @@ class Abuse(Case):
             write(self.path(name), held)
 
     def run_tool(self, name, words, given=None):
-        """Status, standard output and standard error of a tool, with the seconds that it took."""
+        """Runs a tool. Returns status, standard output, standard error and the seconds that it took."""
         command, begun = [os.path.join(TOP, "tools", name), *words], time.monotonic()
         Counted.last = command_text(command, self.work)
         done = subprocess.run(command, stdin=given or subprocess.DEVNULL, stdout=subprocess.PIPE, stderr=subprocess.PIPE, cwd=self.work,
@@ -72,7 +72,7 @@ class Abuse(Case):
         return done.returncode, done.stdout.decode("utf-8", "replace"), done.stderr.decode("utf-8", "replace"), time.monotonic() - begun
 
     def is_refused(self, name, words, status, given=None):
-        """The tool says one line in its name, ends with its status in time, and writes nothing."""
+        """Checks that the tool prints one line with its name, ends with this status in time, and writes nothing."""
         what = f"{name} {' '.join(words)}"
         before = sorted(os.listdir(self.work))
         got, out, err, seconds = self.run_tool(name, words, given)
@@ -107,13 +107,12 @@ class Abuse(Case):
                 self.is_refused(name, [made if word == "INPUT" else word for word in words], status)
             for made in ("binary", "letters", "empty"):
                 got, _, err, seconds = self.run_tool(name, [made if word == "INPUT" else word for word in words])
-                # with crashkernel= behind it a line of 2,047 bytes is too long
+                # once crashkernel= is appended, a line of 2,047 bytes is too long
                 is_well = got in (0, 1) or got == 2 and err.count("\n") == 1
                 self.check(f"{name} {made}", (is_well, "Traceback" in err, seconds < SECONDS), (True, False, True))
 
     def test_folders(self):
-        """Tools that read what collect.sh gathered, of which one file after another can't be
-        used."""
+        """Tools that read a folder of collect.sh, in which one file after another is unusable."""
         for file in ("zp.bin", "cmdline", "srat.bin", "e820ext.bin", "kernel", "iomem", "zoneinfo"):
             for made in ("binary", "/dev/zero", "/proc/self/mem"):
                 folder = self.path("machine")
@@ -135,7 +134,7 @@ class Abuse(Case):
                 shutil.rmtree(folder)
 
     def test_collect(self):
-        """collect.sh over files that never end or can't be read: it says so of each, and ends."""
+        """collect.sh over files that never end or can't be read: it reports each of them, and ends."""
         for made in ("/dev/zero", "/proc/self/mem", "a folder"):
             for file in ("sys/kernel/boot_params/data", "proc/cmdline", "sys/firmware/acpi/tables/SRAT", "proc/iomem", "proc/zoneinfo",
                          "sys/kernel/boot_params/setup_data/0/type", "sys/kernel/boot_params/setup_data/0/data"):
@@ -153,23 +152,23 @@ class Abuse(Case):
                 self.check(f"collect.sh, {file}: {made}", (status in (0, 1), seconds < SECONDS), (True, True))
                 name = {"data": "zp.bin", "cmdline": "cmdline", "SRAT": "srat.bin", "iomem": "iomem", "zoneinfo": "zoneinfo"}.get(file.split("/")[-1])
                 if name and "setup_data" not in file:
-                    self.check(f"collect.sh, {file}: {made}: it is told, and not there",
+                    self.check(f"collect.sh, {file}: {made}: it is reported, and not gathered",
                                (f"collect.sh: {name}: " in err, os.path.exists(self.path("gathered", name))), (True, False))
                 shutil.rmtree(place)
                 shutil.rmtree(self.path("gathered"))
 
     def test_outputs(self):
-        """What can't be written leaves nothing, and what was there stays."""
+        """If an output can't be written, no part of it is left, and existing files stay as they were."""
         write(self.path("log"), LOG)
         write(self.path("there"), b"old")
         for name, words in (("zp-from-log", ["--output", "there", "--e820ext", "none/ext", "--no-initrd", "log"]),
                             ("zp-from-log", ["--output", "there", "--e820ext", "a folder", "--no-initrd", "log"]),
                             ("bootmem-draw", ["--output", "none/out", "map"]), ("bootmem-draw", ["--output", "/dev/full", "map"])):
             self.is_refused(name, words, 1)
-        self.check("what was there", bytes_of(self.path("there")), b"old")
+        self.check("a file that was there before", bytes_of(self.path("there")), b"old")
 
     def test_closed(self):
-        """Closed standard input and output: one line, no traceback; a file is written without standard output."""
+        """If standard input or output is closed, a tool prints one line and no traceback. It needs no standard output to write a file."""
         for name, words, status in (("bootmem-where", ["1M", "map"], 1), ("bootmem-json", ["map"], 1), ("bootmem-draw", ["map"], 1),
                                     ("bootmem-line", ["ranges"], 2), ("bootmem-where", ["1M"], 1), ("bootmem-draw", [], 1)):
             closing = "<&-" if name == "bootmem-draw" and not words or words == ["1M"] else ">&-"
@@ -181,7 +180,7 @@ class Abuse(Case):
         self.check("bootmem-draw --output >&- 2>&-", (done.returncode, os.path.exists(self.path("out"))), (0, True))
 
     def test_no_program(self):
-        """A program that isn't bootmem, and prints nothing: one line or one row says so."""
+        """If the program isn't bootmem and prints nothing, one line or one row says so."""
         shutil.copytree(example("q35-1g"), self.path("machine"))
         for name, words, status in (("bootmem-where", ["1M", "--", "--kernel", "16M,52M", "zp"], 1), ("bootmem-crash", ["machine"], 2),
                                     ("bootmem-draw", ["--", "--kernel", "16M,52M", "zp"], 1), ("bootmem-crash", ["--raw", "machine"], 2),
@@ -192,14 +191,14 @@ class Abuse(Case):
         self.check("bootmem-fleet by /bin/true", (got, "is it bootmem?" in out, err), (1, True, ""))
 
     def test_texts(self):
-        """Texts with numbers that no report has, or with a UTF-8 mark; outputs that are read."""
+        """Texts with impossible numbers or a byte order mark; outputs that are the tool's own inputs."""
         for order in ("99999999999999999999999", "62", "11"):
             write(self.path("orders"), f"== blocks\nnode 0 zone DMA order {order} 0x0000000000001000\n")
             for name, words in (("bootmem-draw", ["--output", "out"]), ("bootmem-where", ["1M"]), ("bootmem-json", [])):
                 self.is_refused(name, [*words, "orders"], 1)
         write(self.path("marked"), b"\xef\xbb\xbf" + MAP.encode())
         self.is_refused("bootmem-where", ["1M", "marked"], 1)
-        self.has("a mark is told", self.run_tool("bootmem-where", ["1M", "marked"])[2], "marked: it begins with a UTF-8 mark")
+        self.has("a byte order mark", self.run_tool("bootmem-where", ["1M", "marked"])[2], "marked: it begins with a UTF-8 mark")
         write(self.path("lines"), MAP.replace("\n", "\r\n"))
         self.check("lines that end with CR and LF", self.run_tool("bootmem-where", ["1M", "lines"])[:2],
                    self.run_tool("bootmem-where", ["1M", "map"])[:2])
@@ -207,7 +206,7 @@ class Abuse(Case):
                             ("bootmem-draw", ["--output", "zp", "--", "--kernel", "16M,52M", "zp"]),
                             ("claims-from-log", ["--e820ext", "claims", "claims"])):
             self.is_refused(name, words, 1)
-        self.check("what was read stays", (text_of(self.path("map")), text_of(self.path("claims"))), (MAP, CLAIMS))
+        self.check("the inputs are unchanged", (text_of(self.path("map")), text_of(self.path("claims"))), (MAP, CLAIMS))
 
 
 if __name__ == "__main__":

@@ -1,5 +1,5 @@
-"""boot-example: the folder that it makes of a boot, by a stand-in for QEMU that hands out the
-boots of examples/, and what it refuses."""
+"""boot-example: the folder that it makes of a boot, and what it refuses. A fake QEMU replays the
+boots of examples/."""
 
 import os
 import re
@@ -10,8 +10,8 @@ import unittest
 from support import Case, bytes_of, example, has_file, machines, text_of, tool, write
 from bootmem_tools import boot_example, kernel_log
 
-# Stands for QEMU: keeps its words, writes the serial line, and answers its monitor from memory,
-# whose parts the file `memory` names: the first byte and the file of each.
+# The fake QEMU: it keeps its words, writes the serial line, and answers the monitor from memory. The
+# file `memory` has the first byte and the file of each part of it.
 QEMU = f"""#!{sys.executable}
 import json, os, shutil, socket, sys
 folder = os.path.dirname(os.path.abspath(sys.argv[0]))
@@ -48,12 +48,12 @@ for text in line:
     line.flush()
 """
 NEXT = "[    0.000000] SLUB: HWalign=64\n"  # the line after the last one that is kept
-BOOT_PARAMS = 0x123456  # where a stand-in's image has the zero page
+BOOT_PARAMS = 0x123456  # address of the zero page in the fake image
 
 
 def made_by_tool():
-    """The machines that boot-example made: their line begins with the words that it gives the
-    kernel."""
+    """The machines that boot-example made: their command line begins with the words that it gives to
+    the kernel."""
     return [
         name
         for name in machines()
@@ -62,7 +62,7 @@ def made_by_tool():
 
 
 def places_of(name):
-    """The memory of a machine that boot-example reads: the first byte and the file of each part."""
+    """The memory of a machine as boot-example reads it: the first byte and the file of each part."""
     image = int(text_of(example(name, "words")).split("--kernel ")[1].split(",")[0], 16)
     found = [(image + BOOT_PARAMS, example(name, "zp.bin"))]
     for table, first in re.findall(r"ACPI: (SRAT|SLIT) 0x(\w+) ", text_of(example(name, "log"))):
@@ -74,20 +74,20 @@ class BootExample(Case):
     """Folders of boots."""
 
     def lay(self, console, places):
-        """Writes a stand-in for QEMU with this serial line and this memory, and a kernel."""
+        """Writes a kernel, and a fake QEMU with this serial line and this memory."""
         memory = "".join(f"{first:#x} {path}\n" for first, path in places)
         for name, data in (("qemu", QEMU), ("kernel", "bzImage"), ("console", console), ("memory", memory)):
             write(self.path(name), data)
         os.chmod(self.path("qemu"), 0o755)
 
     def run_tool(self, *more, **variables):
-        """Status, output and error of the tool with the stand-in."""
+        """Runs the tool with the fake QEMU. Returns status, output and error."""
         words = ["--kernel", self.path("kernel"), "--output", self.path("made"), *more]
         return tool("boot-example", *words, "--", self.path("qemu"), "-m", "1G", variables=variables)
 
     def test_machines(self):
-        """The folder of each machine that the tool made is made again of its log and its memory,
-        byte for byte; the report `crash` is kept there only if the program has it."""
+        """From its log and its memory the folder of each machine is made again, byte for byte. It has
+        the report `crash` only if the program has that report."""
         names = made_by_tool()
         self.check("machines that boot-example made", len(names), 10)
         for name in names:
@@ -104,7 +104,7 @@ class BootExample(Case):
                 os.remove(self.path("made", path))
 
     def test_texts(self):
-        """A log with its maps and memblock's dumps gives the texts of the machine."""
+        """The maps and memblock's dumps in a log become the texts of the machine."""
         for name in machines():
             if has_file(name, "log"):
                 lines = text_of(example(name, "log")).splitlines()
@@ -112,8 +112,8 @@ class BootExample(Case):
                 self.check(f"{name}: memory", kernel_log.memory_text(lines), text_of(example(name, "memory.txt")))
 
     def test_given(self):
-        """Nodes of setup_data, five levels, pages of 1 GiB and an initrd's file come into the
-        folder or into QEMU's words."""
+        """Nodes of setup_data, five-level paging, pages of 1 GiB and the file of an initrd appear in
+        the folder or in QEMU's words."""
         log = text_of(example("q35-2g-shortlog", "log")) + "Using GB pages for direct mapping\n"
         page = bytearray(bytes_of(example("q35-2g-shortlog", "zp.bin")))
         struct.pack_into("<Q", page, 0x250, 0x5000000)
@@ -133,7 +133,7 @@ class BootExample(Case):
             ["-m", "1G"], "mine", "console=ttyS0 memblock=debug ignore_loglevel panic=-1 efi=debug nokaslr"))
 
     def test_refused(self):
-        """A boot that comes to nothing: status 1, one line, no folder."""
+        """A boot that fails: status 1, one line, and no folder."""
         log, places = text_of(example("q35-2g-shortlog", "log")) + NEXT, places_of("q35-2g-shortlog")
         twice = places + [(places[0][0] + 8192, example("pc-128m", "zp.bin"))]
         for what, console, memory, part in (

@@ -1,5 +1,5 @@
-"""How the builds show their progress, with a stand-in for the toolchain: crates are proved after
-those that they use, one that didn't change is left out, and a failure shows its log."""
+"""How a build proves crates and shows its progress, with a fake toolchain. A crate is proved after
+the crates that it uses, an unchanged crate isn't proved again, and a failure shows its log."""
 
 import os
 import shutil
@@ -8,7 +8,7 @@ import sys
 from support import TOP, Case, ran
 
 CRATES = "low:\nleft: low\nright: low  # beside left\ntop: left right low\napart: low\nmain: top std_only\n"
-# the toolchain's command: makes a library, and writes down when it began and ended; it fails if the crate's file says so
+# The fake toolchain makes a library, and logs its start and its end. It fails if the crate's file says so.
 STAND_IN = """#!/bin/sh
 [ "$1" != version ] || { echo stand-in; exit 0; }
 name=$(basename "$PWD")
@@ -40,7 +40,7 @@ class ProveBelow(Case):
             file.write(text)
 
     def prove(self, crate="main"):
-        """Status, standard error, and what the stand-in wrote down."""
+        """Runs prove_below.py. Returns status, standard error and the lines that the fake toolchain logged."""
         log = self.path("log")
         with open(log, "w", encoding="utf-8"):
             pass
@@ -52,7 +52,7 @@ class ProveBelow(Case):
     def test_each_after_those_it_uses(self):
         status, err, log = self.prove()
         self.check("status", status, 0)
-        self.check("the crates below, once each", sorted(line for line in log if line.startswith("end")),
+        self.check("each crate below, exactly once", sorted(line for line in log if line.startswith("end")),
                    ["end left", "end low", "end right", "end top"])
         for first, then in (("low", "left"), ("low", "right"), ("left", "top"), ("right", "top")):
             self.check(f"{then} after {first}", log.index(f"end {first}") < log.index(f"begin {then}"), True)
@@ -62,7 +62,7 @@ class ProveBelow(Case):
         self.prove()
         self.check("nothing changed", self.prove()[2], [])
         self.put("left", "changed")
-        self.check("a crate and what stands on it", [line for line in self.prove()[2] if line.startswith("begin")],
+        self.check("the changed crate and the crates above it", [line for line in self.prove()[2] if line.startswith("begin")],
                    ["begin left", "begin top"])
 
     def test_a_failure_shows_its_log(self):

@@ -1,5 +1,5 @@
-"""The Python package of the tools: its types by mypy and its style by ruff or flake8, if they
-are there; its commands; pip; its documents."""
+"""The Python package of the tools: types (mypy) and style (ruff or flake8), if these programs are
+there; its commands; an installation by pip; its documents."""
 
 import doctest
 import os
@@ -15,13 +15,13 @@ from support import LOW, MAIN, PROGRAM, TOP, Case, ran, text_of, use_library
 
 TOOLS = os.path.join(TOP, "tools")
 PACKAGE = os.path.join(TOOLS, "bootmem_tools")
-# lines of 150 letters; the continuation of a line stands where it reads best
+# Lines have at most 150 characters; the indentation of continued lines is free.
 STYLE = ["--max-line-length", "150", "--extend-ignore", "E127,E128,E131,E203,E402,W291,W503"]
 
 
 def program_of(*names):
-    """The first of these programs that is there: by its name, or as a module of a Python; None
-    if none is."""
+    """The command of the first of these programs that is installed, by its name or as a Python
+    module. None if there is none."""
     for name in names:
         if shutil.which(name):
             return [name]
@@ -39,24 +39,24 @@ class Package(Case):
 
     @unittest.skipUnless(MYPY, "there is no mypy: the types aren't checked")
     def test_types(self):
-        """mypy --strict has nothing to say, and the oldest Python that is promised would take
-        the types."""
+        """mypy --strict reports nothing, also for the oldest Python version that the package
+        supports."""
         for words in (["-p", "bootmem_tools"], ["build_backend.py"]):
             status, out, err = ran([*MYPY, "--strict", "--python-version", "3.9", "--cache-dir", self.path("cache"), *words], folder=TOOLS)
             self.check("mypy --strict", (status, err), (0, b"") if status == 0 else (0, out.decode()))
 
     @unittest.skipUnless(RUFF or FLAKE8, "there is no ruff and no flake8: the style isn't checked")
     def test_style(self):
-        """A checker of style has nothing to say of the package and of these tests."""
+        """The style checker reports nothing for the package and these tests."""
         command = [*RUFF, "check", "--line-length", "150"] if RUFF else [*FLAKE8, *STYLE]
         status, out, _ = ran([*command, PACKAGE, os.path.join(TOOLS, "build_backend.py"), os.path.join(TOP, "tests")])
         self.check("style", (status, out.decode()), (0, ""))
 
     def test_documented(self):
-        """Each module, class and function of the package says what it is, and none is long."""
+        """Each module, class and function of the package has a docstring, and no function is long."""
         for name in sorted(os.listdir(PACKAGE)):
             if name.endswith(".py"):
-                self.check(f"{name}: without a word", undocumented(text_of(os.path.join(PACKAGE, name))), [])
+                self.check(f"{name}: without a docstring, or too long", undocumented(text_of(os.path.join(PACKAGE, name))), [])
 
     def test_commands(self):
         """pyproject.toml, install.sh and the folder have the same commands, and each runs as a
@@ -90,13 +90,13 @@ class Package(Case):
 
     @unittest.skipUnless(use_library(), "there is no libbootmem.so ('make lib')")
     def test_examples(self):
-        """What the package's own documents show."""
+        """The examples in the package's own documents."""
         for module in (bootmem_tools, library):
             found = doctest.testmod(module)
             self.check(module.__name__, (found.failed, found.attempted > 3), (0, True))
 
     def test_inputs(self):
-        """What is made of entries is what the program reads of them."""
+        """The program reads back the entries from which the inputs were made."""
         entries = [LOW, MAIN] + [(0x10000000 + place * 0x2000, 0x1000, inputs.RAM) for place in range(130)]
         page, more = inputs.map_files(entries)
         for name, data in (("zp", page), ("ext", more)):
@@ -118,7 +118,7 @@ class Package(Case):
 
 
 def undocumented(text):
-    """The functions and classes of a module that say nothing, and the functions of more than 45
+    """The functions and classes of a module without a docstring, and its functions of more than 45
     lines."""
     import ast
     found = []

@@ -13,18 +13,18 @@ from support import RAM, RESERVED, Case, bytes_of, example, machine_files, progr
 MACHINES = ("q35-8g-numa2", "ovmf-4g-numa2", "srat-hull3")
 DRAWN = "map,owners,nodes,zones,blocks"
 MOST_BYTES, MOST_SECONDS = 2_000_000, 1.0
-# 16 TiB of which 1,598 frames are reserved, a page of each 8 GiB: 3,199 runs
+# 16 TiB with 1,598 reserved frames, which make 3,199 runs
 GREAT = [(0, 0x9F000, RAM), (0x100000, 0xFFFFFF00000, RAM)] + [((place << 33) + 0x1235000, 0x1000, RESERVED) for place in range(1, 1599)]
 
 
 def data_of(page):
-    """What a page holds: its rows, kinds and changes."""
+    """The data of a page: its rows, kinds and changes."""
     return json.loads(re.search(r'<script type="application/json" id="data">(.*?)</script>', page, re.DOTALL).group(1))
 
 
 def pieces_of(held, report):
-    """The ranges of a report's column, with the label and number of each; what was joined in
-    pieces again."""
+    """The ranges of a report's column, each with its label and number. Ranges that the page joins are
+    separate again."""
     kinds, found = held["kinds"], []
     for column in held["columns"]:
         for lane in column["lanes"] if column["report"] == report else []:
@@ -50,8 +50,8 @@ class Page(Case):
         return text_of(path)
 
     def test_rows(self):
-        """Every line of the reports of a machine is on its page, with its exact range; nothing
-        of it comes from elsewhere."""
+        """Every line of a machine's reports is on its page, with its exact range. The page loads
+        nothing from elsewhere."""
         for name in MACHINES:
             held = data_of(self.page_of(name, "--title", "</script><b>&"))
             self.check(f"page {name}: title", held["title"], "</script><b>&")
@@ -69,8 +69,8 @@ class Page(Case):
             self.check(f"page {name}: no network", re.findall(r"https?:|src=|@import|url\(", page), [])
 
     def test_changes(self):
-        """Two boots: texts of two files, or a file and a run; what changed is what bootmem-diff
-        prints."""
+        """Two boots: two files with reports, or a file and a run. The changes are those that
+        bootmem-diff prints."""
         old, new = example("q35-8g-numa2", "map.txt"), example("q35-4g-mem2g", "map.txt")
         self.check("page of two texts", tool("bootmem-draw", "--html", self.path("two"), old, new), (0, "", ""))
         held = data_of(text_of(self.path("two")))
@@ -87,7 +87,7 @@ class Page(Case):
                                                          in changed], diff.splitlines())
 
     def test_refused(self):
-        """Words that don't go together, and files that can't be had."""
+        """Words that exclude each other, and files that can't be read or written."""
         for words in (["--text", "--html", "x", "map.txt"], ["--output", "x", "--html", "x", "map.txt"], ["map.txt", "map.txt"],
                       ["--html", "x", "map.txt", "map.txt", "map.txt"], ["--html", "x", "map.txt", "map.txt", "--", "zp.bin"],
                       ["--html", "x", "-", "-"]):
@@ -103,14 +103,14 @@ class InBrowser(Case):
     set."""
 
     def shot(self, browser, name):
-        """A picture of the page, which isn't of one colour."""
+        """Takes a picture of the page, and checks that it has more than one colour."""
         folder = os.environ.get("BOOTMEM_PICTURES") or self.work
         path = os.path.join(folder, f"{name}.png")
         browser.screenshot(path)
         self.check(f"{name}: a picture of some bytes", len(bytes_of(path)) > 10000, True)
 
     def here(self, browser):
-        """What the page says of an address."""
+        """The text that the page shows for the address below the mouse."""
         return browser.value("document.getElementById('here').innerText")
 
     def point(self, browser, address, left=400):
@@ -168,7 +168,7 @@ class InBrowser(Case):
             self.check("the crash area is among the changes", "owners: none \u2192 crash\n0x000000006f000000-0x000000007effffff" in changes, True)
             number = changes.index("owners: none \u2192 crash\n0x000000006f000000-0x000000007effffff")
             browser.value(f"document.querySelectorAll('#changes button')[{number}].click()")
-            self.has("a click tells of it", self.here(browser), "crash\n0x000000006f000000-0x000000007effffff")
+            self.has("a click shows it", self.here(browser), "crash\n0x000000006f000000-0x000000007effffff")
             self.has("a name for each boot", browser.value("document.getElementById('changes').innerText"), "B: bootmem --cmdline cmdline")
             self.shot(browser, "two-boots")
             browser.value("document.getElementById('whole').click()")
@@ -176,7 +176,7 @@ class InBrowser(Case):
             self.check("two boots: nothing on the console", browser.said, [])
 
     def test_great(self):
-        """16 TiB in 3,199 runs: the page is small, and soon there."""
+        """16 TiB in 3,199 runs: the page is small, and loads quickly."""
         words, files = machine_files(GREAT)
         for name, held in files.items():
             write(self.path(name), held)
@@ -185,7 +185,7 @@ class InBrowser(Case):
         self.check("the great machine's page", (status, err), (0, ""))
         self.check("its bytes", len(bytes_of(self.path("great.html"))) < MOST_BYTES, True)
         with Browser() as browser:
-            # the least of three, since other work delays it, too
+            # the shortest time of three, because other processes delay it, too
             least = MOST_SECONDS
             for _ in range(3):
                 begun = time.monotonic()

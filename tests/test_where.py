@@ -19,10 +19,10 @@ block    none: not free
 
 
 class Where(Case):
-    """What becomes of an address."""
+    """The history of an address."""
 
     def test_where(self):
-        """One address by run, by its frame's number, by a file and by standard input; a table of memblock; a hole; refusals."""
+        """An address in a run, in a file and on standard input, and as a frame's number; in a table of memblock; in a hole; refusals."""
         folder, words = example("q35-8g-numa2"), words_of("q35-8g-numa2")
         self.check("where", tool("bootmem-where", "0x17be00040", "--", *words, folder=folder), (0, WHERE, ""))
         for address in ("1M", "0x100000", "1048576", "1024K"):
@@ -31,10 +31,10 @@ class Where(Case):
             self.has(f"where {address}", out, "block    order 8 0x0000000000100000-0x00000000001fffff, free\n")
             self.has(f"where {address}", out, "claimed  never\n")
         self.has("where --frame", tool("bootmem-where", "--frame", "256", "--", *words, folder=folder)[1], "(1 MiB), frame 256\n")
-        # record 1 of the memory table, whose place is 8,192 bytes below the end of the kernel's image
+        # record 1 of the memory table, which begins 8,192 bytes below the end of the kernel's image
         self.has("where, a table", tool("bootmem-where", "0x43fe018", "--", *words, folder=folder)[1],
                  "table    memory of memblock, record 1\n")
-        # the newest claim decides; the kernel claims the first 64 KiB, and later the first MiB
+        # the newest claim counts: the kernel claims the first 64 KiB, and later the first MiB
         self.has("where, claimed twice", tool("bootmem-where", "0", "--", *words, folder=folder)[1], "claimed  journal 10: claim low-1m ")
         self.has("where, the last byte", tool("bootmem-where", "0xffff", "--", *words, folder=folder)[1], "claimed  journal 10: claim low-1m ")
         self.has("where, the last byte of an entry", tool("bootmem-where", "0x7ffdefff", "map.txt", folder=folder)[1], "map      usable ")
@@ -70,7 +70,7 @@ class Where(Case):
         self.check("where, no program", tool("bootmem-where", "0", "--program", "/nowhere", "--", "zp.bin", folder=folder)[:2], (1, ""))
 
     def test_own_words(self):
-        """Words of the program that don't come after -- are refused, with where they belong."""
+        """Words of the program that don't come after -- are refused, and the message says where they belong."""
         for one, more in (("bootmem-where", ("0",)), ("bootmem-json", ()), ("bootmem-draw", ("--text",))):
             status, out, err = tool(one, *more, "--srat", "srat.bin", folder=example("q35-8g-numa2"))
             self.check(f"{one}, no --", (status, out, err.partition("; ")[2]),
@@ -83,7 +83,7 @@ class Where(Case):
                    (1, "", "bootmem-json: zp.bin: no text: it has a zero byte, or put the program's own words after --\n"))
 
     def test_uncovered(self):
-        """Memory that no block of the SRAT covers is named: where the table is used all the same, and where it isn't."""
+        """Memory that no block of the SRAT covers is reported, whether the table is used all the same or dropped."""
         write(self.path("zp"), zero_page([LOW, (MIB, GIB - MIB, 1)]))
         for frames, wanted in ((16, "16 frames of memory are in no block of the SRAT, and get the lowest node: "
                                 "0x000000003fff0000-0x000000003fffffff"),
