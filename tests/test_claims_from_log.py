@@ -1,4 +1,4 @@
-"""claims-from-log: the claims of a kernel's log as inputs, against the replays of examples/ and the logs' own crash areas."""
+"""claims-from-log: compares the inputs that it makes of a log's claims with the replays of examples/ and with the kernels' crash areas."""
 
 import os
 import re
@@ -7,7 +7,7 @@ import unittest
 
 from support import Case, bytes_of, entries_of, example, has_file, machines, program, text_of, tool, words_of, write
 
-ROOMS = 1 << 20  # the least number of a line for a room
+ROOMS = 1 << 20  # lines with IDs from here on reserve a room
 
 
 def replay_lines(name, file):
@@ -16,9 +16,9 @@ def replay_lines(name, file):
 
 
 def replay_memory(name):
-    """Memory and soft reserved ranges of a replay, each a base, a size and a type, and how many nodes it has.
+    """Memory and soft reserved ranges of a replay (base, size and type of each), and how many nodes it has.
 
-    The last entries, one for each node, are room for what the program claims by itself, and no memory of the machine."""
+    The last entries, one per node, aren't memory of the machine: they are room for what the program claims by itself."""
     page = bytes_of(example(name, "replay/zp.bin"))
     entries = entries_of(page, page[0x1E8], 0x2D0)
     if has_file(name, "replay/e820ext.bin"):
@@ -29,7 +29,7 @@ def replay_memory(name):
 
 
 def noded_memory(name, nodes):
-    """The ranges of memory of a replay's SRAT, each a base, a size and a node."""
+    """The memory ranges in a replay's SRAT: base, size and node of each."""
     data = bytes_of(example(name, "replay/srat.bin"))
     place, found = 48, []
     while place < len(data):
@@ -45,7 +45,7 @@ def call_line(what, base, size, caller):
 
 
 def dump_lines(table, ranges):
-    """The kernel's lines for a table of memblock: ranges of a base, a size, and a node where there is one."""
+    """The kernel's lines for a table of memblock. A range is its base, its size and perhaps its node."""
     lines = [f"[    0.000000]  {table}.cnt  = {len(ranges):#x}\n"]
     for number, (base, size, *node) in enumerate(ranges):
         on_node = f" on node {node[0]}" if node else ""
@@ -54,7 +54,7 @@ def dump_lines(table, ranges):
 
 
 def asked_lines(words, place, caller):
-    """The kernel's lines for an allocation of a script, which got this place, by the function that asked."""
+    """The kernel's lines for an allocation of a script by this function, which got this place."""
     size, align = int(words[2]), int(words[3])
     rest = dict(zip(words[4::2], words[5::2]))
     answer = call_line("memblock_reserve", place, size, "memblock_alloc_range_nid")
@@ -68,19 +68,19 @@ def asked_lines(words, place, caller):
 
 
 def first_dump(reserves, kernel):
-    """The reserved records of a kernel's first dump, for the first claims of a script: image and brk touch, so they are one record."""
+    """The reserved records of a kernel's first dump, for the first claims of a script. Image and brk adjoin, so they are one record."""
     base, size = (int(part, 16) for part in kernel.split(","))
     return [(base, size + length) if first == base + size else (first, length) for first, length in reserves]
 
 
 def some_function(words):
-    """A name for whatever asked for an allocation."""
+    """A name for the function that asked for an allocation."""
     return "some_function"
 
 
 def claims_log_of(name, caller_of=some_function):
-    """What a kernel with memblock=debug logs of the claims of a machine's replay; `caller_of` names the function that asked for
-    an allocation, by its words."""
+    """The log that a kernel with memblock=debug would write for the claims of a machine's replay. `caller_of` returns the function
+    that asked for an allocation with given words."""
     memory, nodes = replay_memory(name)
     kernel = replay_lines(name, "words")[0].split()[1]
     script = [line.split() for line in replay_lines(name, "script")]
@@ -104,10 +104,10 @@ def claims_log_of(name, caller_of=some_function):
 
 
 class Claims(Case):
-    """Claims of a kernel's log."""
+    """Claims in a kernel's log."""
 
     def same_replay(self, what, name, made):
-        """The folder has the replay of the machine, byte for byte, and the kernel's own places."""
+        """Checks that the folder has the machine's replay, byte for byte, and the kernel's own places."""
         for file in ("zp.bin", "script", "srat.bin", "e820ext.bin", "words"):
             paths = [os.path.join(made, file), example(name, os.path.join("replay", file))]
             self.check(f"{what}: {file}", *(bytes_of(path) if os.path.exists(path) else None for path in paths))
@@ -115,7 +115,7 @@ class Claims(Case):
                    [line for line in replay_lines(name, "script.txt") if ": at " in line or ": no gap" in line])
 
     def test_claims(self):
-        """Each replay is made again from its log: from the kernel's own where one is kept, else from the lines of its claims."""
+        """Each replay is made again from the kernel's log; if the log wasn't kept, from one that is made of the replay's claims."""
         made = real = 0
         for name in machines():
             folder = self.path(name)
@@ -142,7 +142,7 @@ class Claims(Case):
                 self.check(f"{name}: brk is claimed", f"{brk[0][0]}: done" in replay_lines(name, "script.txt"), True)
 
     def test_rooms(self):
-        """What the program claims for sections by itself lies in rooms above the machine's memory, so sections count once there."""
+        """The program's own claims for sections lie in rooms above the machine's memory. So sections aren't claimed twice there."""
         for name in machines():
             if has_file(name, "replay/script"):
                 top = max(base + size for base, size, kind in replay_memory(name)[0] if kind == 1)
@@ -152,7 +152,7 @@ class Claims(Case):
                 self.check(f"{name}: claims of its own", len(own) > 3, True)
 
     def test_moved_initrd(self):
-        """The line of an initrd that moved (relocate_initrd) doesn't count as that of the initrd's first place."""
+        """The log's line on an initrd that moved (relocate_initrd) isn't taken for the initrd's first place."""
         log, made = text_of(example("pc-1g-crashfixed", "log")), []
         moved = re.sub(r"(.* )(RAMDISK: .*\n)", r"\1\2\1Allocated new RAMDISK: [mem 0x3f000000-0x3f0fffff]\n", log)
         self.check("an initrd that moves: its line", moved.count("new RAMDISK"), 1)
@@ -163,7 +163,7 @@ class Claims(Case):
         self.check("an initrd that moves: extension", made[1], made[0])
 
     def test_early(self):
-        """With a kernel's claims the crash area is where its log has it, and every later claim finds the memory that it had."""
+        """With a kernel's claims the crash area lies where its log has it, and every later claim finds its memory free."""
         for name in ("pc-1g-crashfixed", "q35-8g-numa2", "ovmf-4g-numa2"):
             log = text_of(example(name, "log"))
             size, base = (int(part) << 20 for part in re.search(r"Reserving (\d+)MB of memory at (\d+)MB for crashkernel", log).groups())
@@ -176,10 +176,10 @@ class Claims(Case):
                 self.check(f"early {name}: crash", text.splitlines()[1:2], [f"crash at {base:#018x}..{base + size - 1:#018x}"])
                 self.check(f"early {name}: script", re.findall(r"^\d+: (?!at |done).*", text, re.MULTILINE), [])
                 self.check(f"early {name}: sections first", text_of(files[1])[:9], "sections\n")
-        # what the kernel claimed before lay on the area's place by the program alone
+        # the kernel had claimed a range where the program alone puts the area
         self.check("early: without them", program(example("ovmf-4g-numa2"), "--report", "crash", *words_of("ovmf-4g-numa2")).split()[2:],
                    ["0x0000000075000000..0x000000007cffffff"])
-        # a grown table lies below what the kernel had claimed there
+        # a grown table lies below the kernel's claims there
         grown = claims_log_of("zp-holes260") + "memblock: memory is doubled to 512 at [0x9a000-0x9cfff]\n"
         lower = re.sub(r"\[0x0{11}9f000-", "[0x000000000009c000-", grown).replace("[0x9a000-0x9cfff]", "[0x97000-0x99fff]").replace(
             "[0x000000000009a000-0x000000000009cfff]", "[0x0000000000097000-0x0000000000099fff]")
@@ -195,7 +195,7 @@ class Claims(Case):
         log = text_of(example("pc-1g-crashfixed", "log"))
         status, out, err = tool("claims-from-log", "--e820ext", files[0], given=re.sub(r".*setup_arch\+0x797.*\n", "", log))
         self.check("early: no place of the image", (status, err.count("\n"), out.split()[1]), (0, 1, "0x1000000,0x2000000"))
-        # a trimmed allocation, and one that is given back whole
+        # an allocation that is trimmed, and one that is freed as a whole
         freed = re.sub(r"^#.*\n", "", tool("claims-from-log", "--e820ext", files[0], "--script", files[1], given=log)[1] and text_of(files[1]),
                        flags=re.MULTILINE).splitlines()
         trims = [line for line in freed if line.startswith("trim")]

@@ -1,4 +1,4 @@
-"""Every tool: its --help and the examples that it shows, words that it doesn't know, and how it is installed."""
+"""Every tool: its --help, the examples in it, words that the tool doesn't know, and its installation."""
 
 import os
 import re
@@ -24,10 +24,10 @@ def shown_examples(name):
 
 
 class Commands(Case):
-    """What all tools have in common."""
+    """Checks that hold for all tools."""
 
     def test_help(self):
-        """Each tool tells how it is used and that it isn't proved; words that it doesn't know are refused."""
+        """The --help of each tool says how it is used and that it isn't proved. Unknown words are refused."""
         for name in ("bootmem-draw", "bootmem-where", "bootmem-diff", "bootmem-live", "zp-from-log", "collect.sh", "bootmem-json",
                      "bootmem-fleet", "claims-from-log", "bootmem-line", "bootmem-crash", "bootmem-linux", "free-lists", "boot-example"):
             status, out, err = tool(name, "--help")
@@ -39,7 +39,7 @@ class Commands(Case):
             self.check(f"{name} --unknown", (status, out, err == ""), (2, "", False))
 
     def installed(self, program):
-        """The installed script over a stand-in for the program, a shell script of these lines."""
+        """The installed script with a fake program, a shell script of these lines."""
         for folder in ("bin", "libexec/bootmem"):
             os.makedirs(self.path(folder), exist_ok=True)
         write(self.path("libexec/bootmem/bootmem"), f"#!/bin/sh\n{program}\n")
@@ -49,7 +49,7 @@ class Commands(Case):
         return self.path("bin/bootmem")
 
     def test_signals(self):
-        """A signal to the installed script alone ends the program, too, and the script ends by it."""
+        """A signal to only the installed script ends the program, too, and the script ends by the same signal."""
         script = self.installed(f"echo $$ >'{self.path('pid')}.new'; mv '{self.path('pid')}.new' '{self.path('pid')}'; exec sleep 100")
         for number in (signal.SIGTERM, signal.SIGINT, signal.SIGHUP):
             with subprocess.Popen([script, "zp"]) as running:
@@ -62,7 +62,7 @@ class Commands(Case):
             os.remove(self.path("pid"))
 
     def test_hands_over(self):
-        """The installed script hands over words, standard input and status as they are."""
+        """The installed script passes on words, standard input and status unchanged."""
         script = self.installed("for word; do printf '%s\\n' \"$word\"; done; cat; exit 6")
         done = subprocess.run([script, "a b", "", "*"], input=b"given\n", stdout=subprocess.PIPE, check=False)
         self.check("words, input, status", (done.stdout, done.returncode), (b"a b\n\n*\ngiven\n", 6))
@@ -74,14 +74,14 @@ class Commands(Case):
             self.check(f"standard input: {words}", (done.stdout.decode(), done.stderr), (wanted, b""))
 
     def test_examples(self):
-        """The commands that --help shows run where the files that they name are those of a machine, and complain of nothing."""
+        """The commands in --help run without a complaint in a folder with the files of a machine."""
         commands = self.path("bin")
         os.makedirs(commands)
         os.symlink(PROGRAM, os.path.join(commands, "bootmem"))
         has61 = os.path.exists(PROGRAM61)
         if has61:
             os.symlink(PROGRAM61, os.path.join(commands, "bootmem61"))
-        shutil.copy(example("q35-2g-shortlog", "log"), self.work)  # with all lines, and one node
+        shutil.copy(example("q35-2g-shortlog", "log"), self.work)  # it is complete, and has one node
         write(os.path.join(commands, "dmesg"), f"#!/bin/sh\ncat '{self.work}/log'\n".encode())
         os.chmod(os.path.join(commands, "dmesg"), 0o755)
         names = ("bootmem-draw", "bootmem-where", "bootmem-diff", "zp-from-log", "bootmem-json", "bootmem-fleet", "claims-from-log")
@@ -104,14 +104,14 @@ class Commands(Case):
                 done = subprocess.run(["sh", "-c", command], stdin=subprocess.DEVNULL, stdout=subprocess.PIPE, stderr=subprocess.PIPE,
                                       cwd=folder, env={**os.environ, "BOOTMEM": "", "PATH": commands + os.pathsep + os.environ["PATH"]},
                                       check=False)
-                # host1 has 128 MiB, so an area of 512 MiB doesn't fit there
+                # an area of 512 MiB doesn't fit: host1 has 128 MiB
                 wanted = 4 if "512M,high" in command else 1 if name == "bootmem-diff" else 0
                 self.check(f"example: {command}", (done.returncode, done.stderr.decode()), (wanted, ""))
                 self.check(f"example: {command}: it prints or writes", bool(done.stdout) != bool(re.search("--output|--html| > ", command)), True)
         self.check("examples of --help", ran, 22)
 
     def test_examples_of_a_folder(self):
-        """The commands that --help of each tool shows run in a folder that bootmem-collect gathered, and print or write."""
+        """The commands in the --help of each tool run in a folder that bootmem-collect gathered, and print or write something."""
         commands = self.path("bin")
         os.mkdir(commands)
         for name in ("bootmem-line", "bootmem-crash", "bootmem-live"):
@@ -121,7 +121,7 @@ class Commands(Case):
             os.symlink(".", os.path.join(folder, name))
         wanted = {"bootmem-line": [0, 1, 1], "bootmem-crash": [0, 0, 0, 0], "bootmem-live": [0]}
         for name, statuses in wanted.items():
-            # the machine that the test runs on isn't looked at
+            # commands that look at the running machine are left out
             shown = [command for command in shown_examples(name) if command not in ("bootmem-live", "bootmem-live --keep here")]
             self.check(f"{name}: examples", len(shown), len(statuses))
             for command, status in zip(shown, statuses):
@@ -130,7 +130,7 @@ class Commands(Case):
                 self.check(f"example: {command}", (got, bool(out)), (status, ">" not in command))
 
     def test_installed(self):
-        """The tools as they are installed: beside the program in bin, with their package in lib."""
+        """Installed tools: they are in bin like the program, and their package is in lib."""
         subprocess.run([os.path.join(TOP, "tools", "install.sh"), "tools", "", self.work, self.path("man")], check=True)
         os.symlink(PROGRAM, self.path("bin", "bootmem"))
         path = {"BOOTMEM": "", "PATH": self.path("bin") + os.pathsep + os.environ["PATH"]}

@@ -1,5 +1,5 @@
-"""Logs that gzip, bzip2, xz or zstd compressed: each tool that takes a log reads them as it reads
-the log, and says what to do with one that it can't read."""
+"""Logs compressed by gzip, bzip2, xz or zstd. Each tool that takes a log reads them like the log
+itself, or says what to do if it can't."""
 
 import bz2
 import glob
@@ -17,7 +17,7 @@ from bootmem_tools.tool import LOG, Trouble, read_bytes
 
 MACHINE = "ovmf-8g-crashranges"
 PACKERS = {"gzip": gzip.compress, "bzip2": bz2.compress, "xz": lzma.compress}
-# The words of a tool in which LOG is the log, over the inputs of MACHINE.
+# The words of each tool over the inputs of MACHINE. LOG stands for the log.
 BOOT = ["--cmdline", "cmdline", "--efi", "efi.bin", "--kernel", "0x1600000,0x3400000", "zp.bin"]
 READERS = {
     "zp-from-log": ["--output", "OUT", "LOG"],
@@ -34,7 +34,7 @@ class Compressed(Case):
     """Compressed logs."""
 
     def run_over(self, name, log):
-        """What a tool comes to over this log, with the files that it wrote."""
+        """Runs a tool over this log. Returns the result and the files that it wrote."""
         out = self.path("out")
         words = [{"LOG": log, "OUT": out, "HOST": self.path("host")}.get(word,
                                                                          word) for word
@@ -49,7 +49,7 @@ class Compressed(Case):
         return status, said, err, written
 
     def test_readers(self):
-        """Each tool that takes a log, over the log as each program compresses it."""
+        """Each tool that takes a log, over the log as compressed by each program."""
         log = bytes_of(example(MACHINE, "log"))
         write(self.path("plain"), log)
         shutil.copytree(example(MACHINE), self.path("host"))
@@ -66,7 +66,7 @@ class Compressed(Case):
                 self.check(f"{name}, {packer}", self.run_over(name, self.path(packer)), wanted)
 
     def test_input(self):
-        """Standard input, and a log in several parts, which logrotate appends to one another."""
+        """Standard input, and a file of several compressed parts, as logrotate makes one."""
         log = bytes_of(example(MACHINE, "log"))
         wanted = self.run_over("zp-from-log", example(MACHINE, "log"))[3][self.path("out")]
         for packer, pack in PACKERS.items():
@@ -86,7 +86,7 @@ class Compressed(Case):
         self.check("a sosreport", (status, bytes_of(self.path("zp"))), (0, wanted))
 
     def test_broken(self):
-        """A file that was cut or changed, or is too long or no text when it is unpacked."""
+        """A file that was cut off or changed, and one whose contents are too long or no text."""
         log = bytes_of(example(MACHINE, "log"))
         for packer, pack in PACKERS.items():
             packed = pack(log)
@@ -106,8 +106,8 @@ class Compressed(Case):
                  f"longer than {LOG.limit} bytes")
 
     def test_zstd(self):
-        """zstd: without a module for it the error names what unpacks it; with one the log is
-        read."""
+        """zstd: with a Python module for it the log is read; without one the error names a program
+        that unpacks it."""
         write(self.path("a log"), compressed.ZSTD + bytes(20))
         with mock.patch.object(compressed, "zstd_opener",
                                lambda: None), self.assertRaises(Trouble) as raised:
@@ -128,7 +128,7 @@ class Compressed(Case):
             self.check("zstd: read", read_bytes(self.path("a log"), LOG), log)
 
     def test_others(self):
-        """What is no log isn't unpacked: a compressed zero page is refused."""
+        """Only logs are unpacked: a compressed zero page is refused."""
         write(self.path("zp.gz"), gzip.compress(bytes_of(example(MACHINE, "zp.bin"))))
         self.check("a zero page", tool("bootmem-crash", "--size", "1M", "zp.gz",
                                        folder=self.work)[:2], (2, ""))

@@ -1,4 +1,4 @@
-"""bootmem-crash: the kernels' own crash areas, the greatest sizes, why one doesn't fit, and boots that panic."""
+"""bootmem-crash: the kernels' own crash areas, the greatest sizes, the reasons why a size doesn't fit, and boots that panic."""
 
 import json
 import os
@@ -12,7 +12,7 @@ from bootmem_tools import crash as crash_module
 
 
 def crash(name, *words):
-    """What bootmem-crash answers for a boot, without what is assumed or unknown on most machines."""
+    """Runs bootmem-crash for a boot. The result lacks the notes on what is assumed or unknown on most machines."""
     place = words_of(name)[words_of(name).index("--kernel") + 1]
     status, out, err = tool("bootmem-crash", "--kernel", place, *words, ".", folder=example(name))
     return status, out, re.sub(r"bootmem-crash: (assumed|unknown): .*\n", "", err)
@@ -23,7 +23,7 @@ PANICS = {
     "type 128": ([(GIB, 64 * MIB, 128)], [], "the last memory has type 128"),
     "2^46": ([((1 << 46) - 4096, 8192, 1)], [], "there is memory at 2^46 or above"),
 }
-# What the tool says of boots whose inputs the kernel changes; the initrd's place is that of the kernel's log.
+# The tool's notes on boots whose inputs the kernel changes. The initrd's place is the one in the kernel's log.
 CHANGED = {
     "pc-1g-initrdmoves": "the initrd isn't mapped whole: it moves to 0x1fa80000 (relocate_initrd)",
     "srat-initiator": "the SRAT: a generic initiator names domain 7 (acpi_parse_gi_affinity)",
@@ -36,7 +36,7 @@ class Crash(Case):
     """Crash areas that fit."""
 
     def test_fits(self):
-        """What the boots' own lines ask for lies where their kernels had it; the greatest sizes, and no more, fit."""
+        """The areas of the boots' own lines lie where their kernels had them. The greatest sizes fit, and nothing larger."""
         for name in BOOTS:
             if not has_file(name, "crash.txt"):
                 continue
@@ -60,12 +60,12 @@ class Crash(Case):
                    "       below 4 GiB at most 1966M, at 0x0000000005000000-0x000000007fdfffff")
 
     def test_why(self):
-        """Why an area doesn't fit, and what is warned of."""
+        """Reasons why an area doesn't fit, and warnings."""
         status, out, err = crash("q35-8g-numa2", "--size", "512M", "--size", "8G", "--size", "8G,high")
         self.check("crash, sizes", (status, err, [line for line in out.splitlines() if line[0] != " "]),
                    (1, "", ["size   crashkernel=512M fits at 0x000000005f000000-0x000000007effffff", "size   crashkernel=8G doesn't fit",
                             "size   crashkernel=8G,high doesn't fit"]))
-        # brk ends at 0x4410fff, the initrd begins at 0x7fed4000; the gap above is cut by the nodes, at 6 GiB
+        # brk ends at 0x4410fff, and the initrd begins at 0x7fed4000; the border of the nodes, at 6 GiB, splits the gap above 4 GiB
         self.has("crash, below 4 GiB", out, "       from 16 MiB on and below 4 GiB the greatest gap has room for 1966M: "
                  "0x0000000004411000-0x000000007fed3fff, between brk and initrd\n")
         self.has("crash, above", out, "between another node and node-data 1\n")
@@ -92,7 +92,7 @@ class Crash(Case):
         self.check("crash, no zero page", tool("bootmem-crash", "cmdline", folder=example("q35-1g"))[:2], (2, ""))
 
     def test_ranges(self):
-        """Of a size by ranges of total memory the one counts that the kernel picks: 1 GiB with a hole counts as 1 GiB."""
+        """If the line has ranges of total memory, the size is the one that the kernel picks: 1 GiB with a hole counts as 1 GiB."""
         for size, picked, first in (("512M-1G:64M,1G-2G:192M,2G-:256M", "192M", "0x0000000033000000"),
                                     ("1G-:64M@128M", "64M@128M", "0x0000000008000000")):
             status, out, _ = crash("q35-1g", "--raw", "--size", size)
@@ -121,7 +121,7 @@ class Crash(Case):
             "line   crashkernel=512M-:1G crashkernel=64M,high, 64M here, fits at "), err), (True, ""))
 
     def test_several(self):
-        """Several machines, as text and as objects; one with trouble doesn't end the others."""
+        """Several machines, as text and as JSON. A faulty one doesn't keep the others from being shown."""
         status, out, err = tool("bootmem-crash", "--raw", "--size", "512M", "pc-512m-crash64m", "none", "q35-8g-numa2", folder=EXAMPLES)
         self.check("several", (status, [line for line in out.splitlines() if line[0] != " "]),
                    (2, ["== pc-512m-crash64m", "size   crashkernel=512M doesn't fit", "== q35-8g-numa2",
@@ -143,9 +143,8 @@ class Crash(Case):
                                                             "reasons": []}])
 
     def test_low_part(self):
-        """An area above 4 GiB has a low part: both are printed, each of its size, and the sum of
-        them; one below 4 GiB has none. The low part is of 256 MiB, or of the size that the line
-        asks for."""
+        """An area above 4 GiB has a low part, one below 4 GiB has none. Both parts are printed with
+        their sizes and the sum. The low part has 256 MiB, or the size that the line asks for."""
         machine = "q35-8g-numa2"
         write(self.path("low"), b"quiet crashkernel=128M,low crashkernel=64M\n")
         for words, high, low, both in (([], 512, 256, "768 MiB"), (["--cmdline", self.path("low")],
@@ -173,7 +172,7 @@ class Crash(Case):
                  "crashkernel=512M fits at 0x000000005f000000-0x000000007effffff\n")
 
     def test_few_boots(self):
-        """The greatest size is found in a few boots, also where the maps behind the area have no place for themselves: each next size fails."""
+        """The greatest size is found in a few boots, also if later maps find no place for themselves. The next size always fails."""
         for size, most in ((16 * GIB, 8), (1000 * GIB, 10)):
             write(self.path("zp"), zero_page(machine_of(size)))
             own = crash_module.Machine(crash_module.read_words(["--kernel", "16M,52M", "--program", PROGRAM61, self.path("zp")]))
@@ -187,7 +186,7 @@ class Crash(Case):
                            own.tried(f"crashkernel={found + 1}M{suffix}").ranges), (outcome.ranges, []))
 
     def test_progress(self):
-        """On a terminal a line shows that the search is at work, and goes when it ends."""
+        """On a terminal a line shows the progress of the search, and disappears when it ends."""
         master, slave = os.openpty()
         with os.fdopen(master, "rb", buffering=0) as terminal:
             done = subprocess.run([os.path.join(TOP, "tools", "bootmem-crash"), "--kernel", "16M,52M", "zp.bin"], stdout=subprocess.DEVNULL,
@@ -198,7 +197,7 @@ class Crash(Case):
                    (0, True, True))
 
     def test_panics(self):
-        """Boots on which Linux 6.1 is known to panic are told by both tools; their neighbours aren't."""
+        """Both tools report boots on which Linux 6.1 is known to panic, and don't report similar boots on which it doesn't."""
         for what, (entries, blocks, part) in PANICS.items():
             folder = self.path(what.replace(" ", ""))
             os.mkdir(folder)

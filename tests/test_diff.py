@@ -1,4 +1,4 @@
-"""bootmem-diff: the kernel's own maps of two machines, two runs, a log, and what can't be compared."""
+"""bootmem-diff: the kernels' own maps of two machines, two runs, a log, and inputs that can't be compared."""
 
 import unittest
 
@@ -9,10 +9,10 @@ class Diff(Case):
     """Differences by address."""
 
     def test_diff(self):
-        """The kernel's own maps of two machines, two runs, and what can't be compared."""
+        """The kernels' own maps of two machines, two runs, and inputs that can't be compared."""
         folder = example("q35-8g-numa2")
         self.check("diff, equal", tool("bootmem-diff", "map.txt", "map.txt", folder=folder), (0, "", ""))
-        # mem=2G takes what the machine of 4 GiB has above 2 GiB
+        # mem=2G removes what the machine of 4 GiB has above 2 GiB
         self.check("diff, texts", tool("bootmem-diff", "map.txt", "../q35-4g-mem2g/map.txt", folder=folder),
                    (1, "0x0000000100000000-0x000000027fffffff usable -> none\n", ""))
         self.check("diff, standard input", tool("bootmem-diff", "-", "map.txt", folder=example("pc-128m"),

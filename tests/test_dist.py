@@ -1,5 +1,5 @@
-"""What goes to machines without the toolchain: the archive of `make dist` and the packages of
-`make deb`, made from a copy of the sources without crates."""
+"""The archive of `make dist` and the packages of `make deb`, which are for machines without the
+toolchain. Both are made from a copy of the sources without crates."""
 
 import glob
 import hashlib
@@ -26,7 +26,7 @@ SECONDS = 1767323045  # the time of the only commit
 COMMIT = ["git", "-c", "user.name=T", "-c", "user.email=t@example.org", "commit", "-q", "-m", "All"]
 COMMANDS = re.findall(r'^([\w-]+) = "bootmem_tools',
                       text_of(os.path.join(TOP, "tools/pyproject.toml")), re.MULTILINE)
-# how each of these is refused, and what is done to the tree before
+# the message of each refusal, and how the tree is changed before it
 REFUSALS = [
     ("no program", lambda tree: os.remove(f"{tree}/bootaudit"), "there is no ./bootaudit to pack"),
     ("newer sources", lambda tree: set_age(tree, "crates.txt", -60),
@@ -39,7 +39,7 @@ REFUSALS = [
 
 
 def set_age(tree, name, seconds):
-    """Sets the time of a file of the tree to that of ./bootmem, less these seconds."""
+    """Sets the time of a file of the tree to these seconds before that of ./bootmem."""
     time = os.stat(os.path.join(tree, "bootmem")).st_mtime - seconds
     os.utime(os.path.join(tree, name), (time, time))
 
@@ -67,7 +67,7 @@ def make_tree(tree):
 
 
 def make(tree, *words, mask=0o022):
-    """Status, standard output and standard error of make in the tree, without a toolchain."""
+    """Runs make in the tree, without a toolchain. Returns status, standard output and standard error."""
     old = os.umask(mask)
     try:
         status, out, err = ran(["make", "--no-print-directory", *words, "RT=none"], folder=tree,
@@ -86,7 +86,7 @@ def built_lines(library):
 @unittest.skipUnless(all(map(os.path.exists, OTHERS)), "there is no ./bootmem61 or no ./bootaudit ('make')")
 @unittest.skipUnless(shutil.which("git") and shutil.which("make"), "there is no git or no make")
 class Packed(Case):
-    """What `make dist` and `make deb` make."""
+    """The archive and the packages."""
 
     @classmethod
     def setUpClass(cls):
@@ -106,20 +106,20 @@ class Packed(Case):
         return self.path(self.top)
 
     def files(self, top):
-        """The names of the files below a folder, seen from it, without links."""
+        """The paths of the files in a folder, relative to it. Links are left out."""
         found = [os.path.join(folder, name) for folder, _, names in os.walk(top) for name in names]
         return sorted(os.path.relpath(path, top) for path in found if not os.path.islink(path))
 
     def runs(self, prefix, name, *words, path="/usr/bin:/bin"):
-        """What an installed command prints and its status, with no variable but PATH, seen from
-        the test's folder."""
+        """Runs an installed command in the test's folder with only PATH set. Returns what it prints and
+        its status."""
         command = ["env", "-i", f"PATH={prefix}/bin:{path}", f"{prefix}/bin/{name}", *words]
         status, out, err = ran(command, folder=self.work)
         return status, (out + err).decode()
 
     def test_names(self):
-        """The archive has all that can be installed, in one folder, sorted, of one owner and one
-        time."""
+        """The archive has everything that can be installed, in one folder and sorted. All files have
+        the same owner and the same time."""
         commit = ran(["git", "rev-parse", "--short=12", "HEAD"], folder=self.tree)[1].decode()
         self.check("its name", self.top,
                    f"bootmem-{VERSION}-{commit.strip()}-{os.uname().machine}")
@@ -165,7 +165,7 @@ class Packed(Case):
         self.check("nothing is installed", os.path.exists(self.path("there")), False)
 
     def test_installed(self):
-        """The installed copy runs without the repository, the archive and a path of Python's."""
+        """The installed copy runs without the repository, without the archive and without PYTHONPATH."""
         top, prefix = self.unpacked(), self.path("a place & more")
         self.check("as it is unpacked", self.runs(top, "bootmem", "--version")[0], 0)
         for _ in range(2):
@@ -221,7 +221,7 @@ class Packed(Case):
         self.check("the installed BUILD", installed.splitlines(), built_lines(self.library))
 
     def test_same_bytes(self):
-        """Other times and another mask give the same archive; a changed file, another name."""
+        """The archive doesn't depend on times and umask. A changed file gives it another name."""
         first, tree = bytes_of(self.archive), self.path("tree")
         shutil.copytree(self.tree, tree, symlinks=True)
         for path in glob.glob(f"{tree}/tools/*") + glob.glob(f"{tree}/examples/first/*"):
@@ -238,7 +238,7 @@ class Packed(Case):
                    [True, False, False])
 
     def test_refused(self):
-        """Without a program, or with one that is older than the sources, nothing is made."""
+        """If a program is missing, or older than the sources, nothing is made."""
         for what, change, message in REFUSALS:
             tree = self.path(what)
             shutil.copytree(self.tree, tree, symlinks=True)

@@ -50,7 +50,7 @@ class Draw(Case):
     """Pictures of reports."""
 
     def test_draw(self):
-        """Tables for a terminal, and pictures: their rows have room for their text, and none lies over another."""
+        """Tables for a terminal, and pictures. In a picture each row has room for its text, and no row covers another."""
         self.check("draw --text", tool("bootmem-draw", "--text", example("first", "map.txt")), (0, FIRST, ""))
         self.check("draw --text, overlapping zones", tool("bootmem-draw", "--text", given=OVER), (0, OVER_TABLE, ""))
         for name in ("q35-20g-numa4", "srat-hull3", "zp-random2"):
@@ -62,7 +62,7 @@ class Draw(Case):
                 wide = [line for line in texts[width].splitlines() if len(line) > (width or 80)]
                 self.check(f"draw --text {name}: {width} columns", (status, err, wide), (0, "", []))
             self.check(f"draw --text {name}: tables", (texts[400].count("address"), texts[80].count("address") > 1), (1, True))
-            self.check(f"draw --text {name}: 80 columns are taken where nothing tells", texts[None], texts[80])
+            self.check(f"draw --text {name}: 80 columns unless the width is known", texts[None], texts[80])
             self.has(f"draw --text {name}: the map of a section", texts[400], "page structures ")
         for name in ("q35-8g-numa2", "ovmf-4g-numa2", "srat-hull3"):
             status, picture, err = tool("bootmem-draw", "--title", "<&>", "--", *words_of(name), folder=example(name))
@@ -84,7 +84,7 @@ class Draw(Case):
         self.check("draw, a folder", tool("bootmem-draw", "--output", "/", given=OVER)[:2], (1, ""))
 
     def test_part(self):
-        """A part of memory: rows that are cut keep their whole size, and nothing else is drawn."""
+        """A part of memory: rows that its borders cut show their whole size, and nothing outside is drawn."""
         self.check("draw --from --to", tool("bootmem-draw", "--text", "--from", "3M", "--to", "0x7ff0000", example("first", "map.txt")),
                    (0, "  address  map\n 0x300000  usable 126.9 MiB\n0x7fe0000  reserved 128 KiB\n0x7ff0000\n", ""))
         self.check("draw --from alone", tool("bootmem-draw", "--text", "--from", "0x7fe0000", example("first", "map.txt"))[1],
@@ -95,7 +95,7 @@ class Draw(Case):
             self.check(f"draw {words}", tool("bootmem-draw", *words, example("first", "map.txt"))[:2], (2, ""))
 
     def test_many(self):
-        """A picture of very many runs is below 4,000 pixels, and its rows stand for all of them; a tall row tells its name again."""
+        """A picture of very many runs has fewer than 4,000 pixels, and its rows cover all runs. A tall row repeats its name."""
         runs = 2500
         lines = [f"{4096 * number:#018x}..{4096 * number + 4095:#018x} {1 + number % 2} {('usable', 'reserved')[number % 2]}\n"
                  for number in range(runs)]

@@ -11,8 +11,8 @@ from schema import SCHEMA, fits
 from support import EXAMPLES, GIB, MIB, PROGRAM61, Case, bytes_of, example, tool, write, zero_page
 from bootmem_tools import inputs
 
-# Free frames are fewer than with --raw by what the kernels' logs have: 1,152 frames of the log buffer and its companions, 17 of brk, and
-# page tables.
+# There are fewer free frames than with --raw, by claims that the kernels' logs have: 1,152 frames of the log buffer and what goes with it,
+# 17 frames of brk, and page tables.
 FLEET = """q35-1g\t0\t-\t10\t262013\t242977\tnone\t-\tabsent\t1
 q35-8g-crashhighlow\t0\t-\t11\t2097021\t1901855\t0x000000025f000000..0x000000027effffff\t0x000000007b000000..0x000000007effffff\tabsent\t1
 srat-overlap\t0\t-\t6\t1048222\t1016895\tnone\t-\toverlap 0 1\t1
@@ -29,7 +29,7 @@ class Fleet(Case):
     """Many machines."""
 
     def test_fleet(self):
-        """Lines and objects of machines, folders with what is wrong, changed lines, and how long a thousand folders take."""
+        """Lines and objects of machines, faulty folders, changed lines, and the time for a thousand folders."""
         names = [line.split("\t")[0] for line in FLEET.splitlines()]
         self.check("fleet", tool("bootmem-fleet", *names, folder=EXAMPLES), (0, FLEET, ""))
         self.check("fleet --raw", tool("bootmem-fleet", "--raw", *names, folder=EXAMPLES), (0, RAW, ""))
@@ -66,7 +66,7 @@ class Fleet(Case):
                               ("crashkernl=512M", "word 1: crashkernl=512M: passed over, by the kernel too: is crashkernel= meant?")):
             status, out, err = tool("bootmem-fleet", "--kernel", "16M,32M", "--cmdline-drop", "mem", "--cmdline-add", words, "bad", "bad",
                                     folder=self.work)
-            self.check(f"fleet {words}: told once", (status, out.count("\n"), err),
+            self.check(f"fleet {words}: reported once", (status, out.count("\n"), err),
                        (5, 2, f"bootmem-fleet: --cmdline-add: {wanted}\n"
                        f"bootmem-fleet: --cmdline-add {words}: on none of 2 machines the kernel takes a crash area from it\n"))
         self.check("fleet: ranges are no complaint", tool("bootmem-fleet", "--cmdline-drop", "mem", "--cmdline-add",
@@ -93,7 +93,7 @@ class Fleet(Case):
                    "0x00000000c0000000-0x00000000c1ffffff, so the image can't lie there whole; is it the place on another machine, or of "
                    "another boot (KASLR)?\n")
         if b"__asan_init" in bytes_of(PROGRAM61):
-            return  # a sanitizer's program takes its own time
+            return  # a program with sanitizers is slower
         for number in range(FOLDERS):
             os.symlink(example("q35-8g-numa2"), self.path(f"host{number}"))
         status, out, _ = tool("bootmem-fleet", *(f"host{number}" for number in range(FOLDERS)), folder=self.work)
@@ -145,16 +145,16 @@ class Fleet(Case):
                                                                             folder=self.work)[0],
                        status)
         write(self.path("none", "srat.bin"), inputs.srat([(0, GIB - 16 * 4096, 0)]))
-        self.check("a panic goes before", tool("bootmem-fleet", "--cmdline-add",
+        self.check("a panic has priority", tool("bootmem-fleet", "--cmdline-add",
                                                "crashkernel=128MB", "none", folder=self.work)[0],
                    3)
-        self.check("the status is told",
+        self.check("--help names the status",
                    all("5 if none of this and WORDS" in " ".join(text.split()) for text in
                                              (tool("bootmem-fleet", "--help")[1],)), True)
 
     def test_log(self):
-        """A folder's log tells what bootmem-linux --log takes from it; --raw takes nothing, and a
-        log without the boot's start is passed over."""
+        """The tool takes from a folder's log what bootmem-linux --log takes. --raw takes nothing, and a
+        log that lacks the boot's start is ignored."""
         shutil.copytree(example("ovmf-2g-tpm"), self.path("host"))
         words = ["--report", "crash,summary", "--log", "log", "--efi", "efi.bin", "--cmdline",
                  "cmdline", "--kernel", "0x1600000,0x3400000", "zp.bin"]
@@ -192,8 +192,8 @@ class Fleet(Case):
                    (1, ["2", "host/log: no text of a log: it has a zero byte"]))
 
     def as_linux(self):
-        """A line by ranges, and one that asks for nothing: the area is the kernel's, by total memory rounded up, below an initrd from
-        0x72800000 on."""
+        """A line with ranges, and one that asks for no area. The area is the kernel's: its size is by total memory rounded up, and it
+        lies below an initrd at 0x72800000."""
         os.makedirs(self.path("four"))
         write(self.path("four", "zp.bin"), inputs.zero_page([(0, 0x9FC00, 1), (MIB, 0x7FFDF000 - MIB, 1), (4 * GIB, 2 * GIB, 1)],
                                                             (0x72800000, 0xD7DF000)))
