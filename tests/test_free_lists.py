@@ -1,8 +1,8 @@
 #!/usr/bin/env python3
-"""test_free_lists.py [PROGRAM]: compares what a debugger read of real kernels at handover
+"""test_free_lists.py [PROGRAM]: compares what a debugger read from real kernels at handover
 (examples/*/lists/kernel.txt) with the program's reports: every block by node, zone, order and
-address, every record of both tables, the zones, and where the kernel's log says that an
-allocation lies. Prints how many were compared. A difference needs a row of KERNEL.md."""
+address, every record of both tables, the zones, and the places of allocations in the kernel's log.
+Prints how many items were compared. Every difference needs a row of KERNEL.md."""
 
 import contextlib
 import io
@@ -34,7 +34,7 @@ PROGRAM = os.path.abspath(os.environ.get("BOOTMEM_TESTED") or os.path.join(TOP, 
 
 
 class Boot(NamedTuple):
-    """What one comparison needs: the text of `kernel.txt`, and what the program said of both
+    """The input of one comparison: the text of `kernel.txt`, and the program's reports for both
     boots."""
 
     text: str
@@ -44,7 +44,7 @@ class Boot(NamedTuple):
     records: List[lists.Record]
 
     def compare(self, text: str) -> List[lists.Result]:
-        """What the comparison finds if `kernel.txt` has this text."""
+        """The result of the comparison if `kernel.txt` has this text."""
         kernel = lists.parse_kernel(text)
         return lists.compare_boot(kernel, self.told, self.room) + lists.compare_machine(
             kernel, self.own, self.records
@@ -82,7 +82,7 @@ def boot_of(name: str) -> Boot:
     return BOOTS[name]
 
 
-# What takes the place of a match.
+# Replacements for a match.
 Change = Union[str, Callable[["re.Match[str]"], str]]
 
 
@@ -93,9 +93,8 @@ def raised(text: str, by: int) -> str:
 
 BLOCK = r"(node \d+ zone )(\w+)( order )(\d+)( \w+ )(0x\w{16})"
 RECORD = r"(0x\w{16})\.\.(0x\w{16}) node (\d+) flags (0x\w+)"
-# Wrong things in kernel.txt: the machine, what is wrong, the section, the pattern of which the
-# first match is changed, what takes its place,
-# and what the comparison then names.
+# Faults in kernel.txt: the machine, the fault, the section, a pattern, the replacement for its first
+# match, and what the comparison then reports.
 PLANTED: Tuple[Tuple[str, str, str, str, Change, str], ...] = (
     (
         "pc-128m",
@@ -266,12 +265,12 @@ PLANTED: Tuple[Tuple[str, str, str, str, Change, str], ...] = (
 
 
 def recount(part: str) -> str:
-    """A table's section with the number of its records set right."""
+    """The section of a table, with the number of its records corrected."""
     return re.sub(r"records \d+", f"records {len(part.splitlines()) - 2}", part, count=1)
 
 
 def planted(text: str, section: str, pattern: str, change: Change) -> str:
-    """The text with the first match of the pattern in a section changed."""
+    """The text, with the first match of the pattern in a section replaced."""
     start = text.index(f"== {section}\n")
     end = text.find("\n== ", start) + 1 or len(text)
     part = re.sub(pattern, change, text[start:end], count=1)
@@ -281,13 +280,13 @@ def planted(text: str, section: str, pattern: str, change: Change) -> str:
 
 
 class FreeLists(unittest.TestCase):
-    """The kernels' lists and tables, and wrong ones."""
+    """The kernels' lists and tables, and faulty ones."""
 
     counts: Dict[str, int] = {}
     known: Dict[str, int] = {}
 
     def test_each_machine(self) -> None:
-        """All that the kernel has is the program's, or has a row of KERNEL.md."""
+        """The program agrees with the kernel, except for differences that have a row of KERNEL.md."""
         for name in MACHINES:
             with self.subTest(machine=name):
                 boot = boot_of(name)
@@ -300,8 +299,7 @@ class FreeLists(unittest.TestCase):
                         self.known[result.row] = self.known.get(result.row, 0) + result.known
 
     def test_rows(self) -> None:
-        """Each row that explains a difference stands in KERNEL.md, in the first column of its
-        table."""
+        """Each row that explains a difference is in KERNEL.md, in the first column of its table."""
         text = tool.read_text(os.path.join(TOP, "docs", "KERNEL.md"))
         for row in (lists.SPLIT_ROW, lists.SPAN_ROW, lists.DEFERRED_ROW):
             self.assertTrue(
@@ -309,7 +307,7 @@ class FreeLists(unittest.TestCase):
             )
 
     def test_wrong_block_in_each_file(self) -> None:
-        """A block one frame higher is found in each machine's file."""
+        """In the file of each machine, a block that lies one frame higher is found."""
         for name in MACHINES:
             with self.subTest(machine=name):
                 boot = boot_of(name)
@@ -322,7 +320,7 @@ class FreeLists(unittest.TestCase):
                 self.assertIn("blocks", boot.refused(text))
 
     def test_planted(self) -> None:
-        """Each kind of wrong thing is found, under its name."""
+        """Each kind of fault is found, and reported by its name."""
         for name, what, section, pattern, change, subject in PLANTED:
             with self.subTest(machine=name, planted=what):
                 boot = boot_of(name)
@@ -331,8 +329,8 @@ class FreeLists(unittest.TestCase):
                 self.assertIn(subject, boot.refused(text))
 
     def test_copy(self) -> None:
-        """The command finds nothing in a copy of a folder, and a block that is missing there,
-        with status 1."""
+        """The command finds no difference in a copy of a folder. It reports a block that is missing
+        there, with status 1."""
         with tempfile.TemporaryDirectory() as work:
             folder = os.path.join(work, "lists")
             shutil.copytree(os.path.join(EXAMPLES, "pc-128m", "lists"), folder)
@@ -353,8 +351,8 @@ class FreeLists(unittest.TestCase):
                 self.assertIn(part, said.getvalue())
 
     def test_needs(self) -> None:
-        """Without QEMU, gdb or the kernel's symbols the command ends with one line that names
-        what is missing."""
+        """Without QEMU, gdb or the kernel's symbols the command prints one line that names what is
+        missing."""
         command = os.path.join(TOP, "tools", "free-lists")
         with tempfile.TemporaryDirectory() as work:
             for name, text in (("qemu", ""), ("gdb", ""), ("python", "")):
@@ -395,8 +393,8 @@ class FreeLists(unittest.TestCase):
                 self.assertFalse(os.path.exists(os.path.join(work, "made")))
 
     def test_made(self) -> None:
-        """The inputs that are made of a kernel's tables and of a log are those of the folder,
-        but for the copies of the line, which was longer, and what lies below them."""
+        """The inputs that are made from a kernel's tables and a log are those of the folder, except for
+        the copies of the command line, which was longer, and the claims below them."""
         for name in LOGGED:
             with self.subTest(machine=name):
                 boot, folder = boot_of(name), os.path.join(EXAMPLES, name)
@@ -416,7 +414,7 @@ class FreeLists(unittest.TestCase):
                     self.assertEqual(int(theirs.split()[2]), int(ours.split()[2]) + len(LATER))
 
     def test_texts(self) -> None:
-        """What is read of each file is written again as the same text."""
+        """Each file is the same text after it was read and written again."""
         for name in MACHINES:
             text = boot_of(name).text
             self.assertEqual(lists.kernel_text(lists.parse_kernel(text)), text, name)
@@ -446,7 +444,7 @@ class FreeLists(unittest.TestCase):
 
     @classmethod
     def tearDownClass(cls) -> None:
-        """Prints how many were compared, and how many differ by a row of KERNEL.md."""
+        """Prints how many items were compared, and how many differ as a row of KERNEL.md says."""
         if cls.counts:
             print(
                 f"{len(MACHINES)} kernels at handover agree in "

@@ -1,4 +1,4 @@
-"""bootmem-json: every report of every machine by the schema, and rarer lines by hand."""
+"""bootmem-json: checks every report of every machine against the schema, and rare lines against objects written by hand."""
 
 import json
 import unittest
@@ -74,7 +74,7 @@ RARE_OBJECT = {
 
 
 def count_lines(found):
-    """How many lines of reports an object tells of, but for those of fixed number."""
+    """The number of report lines in an object, without the reports that always have the same number of lines."""
     lists = [name for name in ("map", "memory", "reserved", "owners", "journal", "zones", "script", "buddyinfo", "blocks") if name in found]
     return sum(len(found[name]) for name in lists)
 
@@ -83,7 +83,7 @@ class Json(Case):
     """Reports as JSON."""
 
     def test_json(self):
-        """Every report of every machine has the form of the schema, and so has what is made by hand of the rarer lines."""
+        """Every report of every machine fits the schema, and so do the objects for rare lines."""
         names = ["map", "memory", "reserved", "owners", "journal", "zones", "script", "buddyinfo", "blocks"]
         more = ["options", "nodes", "crash", "sections", "tables", "summary"]
         for name in machines():
@@ -105,7 +105,7 @@ class Json(Case):
         self.check("json: a run", (status, err, json.loads(out)["crash"]), (0, "", {
             "outcome": "at", "first": "0x000000025f000000", "last": "0x000000027effffff",
             "low": {"first": "0x000000007b000000", "last": "0x000000007effffff"}}))
-        # one report without its line is known by its first line, or told by its name
+        # a report without its heading is recognised by its first line, or named on the command line
         for name in more + names:
             alone = program(folder, "--report", name, "--script", "replay/script", *words_of("q35-8g-crashhighlow"))
             self.check(f"json: {name} alone", list(json.loads(tool("bootmem-json", given=alone)[1])), [name if name != "reserved" else "memory"])

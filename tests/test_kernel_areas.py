@@ -1,6 +1,6 @@
-"""bootmem61 over each machine of examples/, with the claims of its kernel's log, and bootmem-linux
-without a log: crash area, data of nodes, grown tables and zones are the kernel's. None differs. A
-machine that does needs a row of docs/KERNEL.md before it may be left out here."""
+"""Crash area, node data, grown tables and zones of each machine of examples/ are the kernel's: by
+bootmem61 with the claims of the kernel's log, and by bootmem-linux without a log. No machine
+differs. One that does needs a row of docs/KERNEL.md before it may be left out here."""
 
 import collections
 import os
@@ -37,9 +37,9 @@ from test_linux import (
 )
 from bootmem_tools import reports
 
-# The machines whose kernel's memory table grew. All grown reserved tables grew after the sections.
+# The machines on which the kernel's memory table grew. Reserved tables grew only after the sections.
 GROWN = ["zp-holes129", "zp-holes260"]
-# How many zones the debugger read, and how many of them bootmem has with another start or end.
+# The number of zones that the debugger read, and of those that start or end elsewhere by bootmem.
 ZONES = (164, 33)
 ZONE = re.compile(r"^(Node \d+, zone \w+ start \d+ end \d+ present \d+)", re.MULTILINE)
 HEAD = re.compile(r"^== memory\n(place 0x\w+ room \d+ records \d+)$", re.MULTILINE)
@@ -54,13 +54,13 @@ def caller_of(words):
 
 
 def log_of(name):
-    """The log of a machine's boot: the kernel's own where one is kept, else the lines of its
-    claims, from its replay."""
+    """The log of a machine's boot. If the kernel's own wasn't kept, it has the lines of its claims,
+    made from the replay."""
     return text_of(example(name, "log")) if has_file(name, "log") else claims_log_of(name, caller_of)
 
 
 def area_of(text):
-    """The size of the crash area of a report `crash`, as KERNEL.md has it."""
+    """The size of the crash area in a report `crash`, in the form that KERNEL.md uses."""
     found = re.match(r"crash at (0x\w+)\.\.(0x\w+)\n", text)
     if not found:
         return text.removeprefix("crash ").rstrip()
@@ -70,7 +70,7 @@ def area_of(text):
 
 @unittest.skipUnless(os.access(PROGRAM61, os.X_OK), "there is no ./bootmem61 ('make bootmem61')")
 class KernelAreas(Case):
-    """What bootmem61 answers, and what the kernel had."""
+    """Compares the reports of bootmem61 with what the kernel had."""
 
     def reports_of(self, name, names, *more):
         """The reports of bootmem61 for a machine, by their names."""
@@ -88,8 +88,8 @@ class KernelAreas(Case):
         return ["--claims", self.path("early")]
 
     def test_places(self):
-        """With the claims of its kernel's log a boot has the kernel's crash area, its low part and
-        the data of its nodes, and each claim is made."""
+        """With the claims of the kernel's log a boot has the kernel's crash area with its low part, and
+        the kernel's node data. Each claim succeeds."""
         counts = collections.Counter()
         for name in machines():
             if not has_file(name, "replay/script"):
@@ -116,8 +116,8 @@ class KernelAreas(Case):
         return reports.split_reports(out) if status == 0 else {}
 
     def test_linux(self):
-        """Without a log bootmem-linux has the kernel's grown memory tables and zones, too, and no
-        line of its early claims is refused. (Crash areas and node data: test_linux.)"""
+        """Without a log bootmem-linux has the kernel's grown memory tables and zones, and no line of its
+        early claims is refused. (test_linux compares crash areas and node data.)"""
         grown, zones = [], 0
         for name in machines():
             if not has_file(name, "lists/kernel.txt"):
@@ -137,7 +137,7 @@ class KernelAreas(Case):
         self.check("bootmem-linux: memory tables that grew, and zones", (grown, zones), (GROWN, ZONES[0]))
 
     def test_tables(self):
-        """A memory table that grew lies where a debugger found the kernel's, with the same room."""
+        """A memory table that grew has the place and the room that a debugger read from the kernel."""
         grown = []
         for name in machines():
             lists = text_of(example(name, "lists/kernel.txt")) if has_file(name, "lists/kernel.txt") else ""
@@ -149,8 +149,8 @@ class KernelAreas(Case):
         self.check("kernel areas: memory tables that grew", grown, GROWN)
 
     def test_zones(self):
-        """Start, end and present frames of each zone with memory are those that a debugger read of
-        the kernel. `bootmem` has others on some machines."""
+        """Start, end and present frames of each zone with memory are those that a debugger read from
+        the kernel. On some machines those of `bootmem` differ."""
         zones = others = 0
         for name in machines():
             if not has_file(name, "lists/kernel.txt"):
@@ -167,8 +167,8 @@ class KernelAreas(Case):
         self.check("kernel areas: zones, and those that bootmem has otherwise", (zones, others), ZONES)
 
     def test_sizes(self):
-        """The sizes that KERNEL.md says a kernel and `bootmem` pick from the ranges of two lines are
-        those of bootmem61 and of bootmem."""
+        """KERNEL.md has the sizes that the kernel and `bootmem` pick from the ranges of two lines.
+        bootmem61 picks the kernel's, and bootmem those of `bootmem`."""
         page = text_of(os.path.join(TOP, "docs", "KERNEL.md"))
         lines = re.findall(r"`((?:\d\w+-\w*:\w+,?){3,})`", page)
         self.check("lines of KERNEL.md", len(lines), 2)

@@ -1,4 +1,4 @@
-"""The library from Python: the calls of a VMM's author, and each status. Skipped if there is no libbootmem.so."""
+"""The library, called from Python: the calls that a VMM needs, and each status. Skipped if there is no libbootmem.so."""
 
 import os
 import subprocess
@@ -106,8 +106,8 @@ class Calls(unittest.TestCase):
             self.assertEqual((refused.exception.status, str(refused.exception)), (status, line))
 
     def test_a_profile(self):
-        """The boot of `bootmem61`: its rules, its early claims and its lines. The other profile's
-        is that of no profile, and any other number is a wrong word."""
+        """The profile of Linux 6.1 gives the boot of bootmem61: its rules, early claims and lines. The
+        other profile is the default. Any other number is a usage error."""
         words, files = ["--cmdline", "line", "zp.bin"], {"zp.bin": PAGE, "line": b"crashkernel=1G-:64M", "claims": b"reserve 1 0x20000000 0x1000\n"}
         linux = library.LINUX_6_1
         self.assertEqual(library.crash_area(words, files).state, library.NOT_REQUESTED)
@@ -130,8 +130,8 @@ class Calls(unittest.TestCase):
             self.assertEqual((refused.exception.reason, str(refused.exception)), ("usage", ""))
 
     def test_a_slit(self):
-        """A SLIT has the program's answers, word for word: without an SRAT, with one, of another
-        length, and with each other fault."""
+        """The library answers a SLIT with the program's own text: without an SRAT, with one, with a
+        wrong length, and with each other fault."""
         domains = srat([(0, 512 << 20, 0), (512 << 20, 512 << 20, 1)], [0, 1])
         whole = slit([[10, 20], [20, 10]])
         answers = [("no SRAT", whole, None, "slit no srat"), ("an SRAT", whole, domains,
@@ -166,7 +166,7 @@ class Calls(unittest.TestCase):
                                      support.run_over(files, words))
 
     def test_the_first_of_a_name_counts(self):
-        # two files of one name can't stand in a dict, but a name can be bytes or text
+        # a dict can't hold two files of one name, but one name can be bytes and the other one text
         files = {"zp.bin": PAGE, b"zp.bin": b""}
         self.assertTrue(library.run(["--report", "map", "zp.bin"], files))
 
@@ -187,7 +187,7 @@ class Calls(unittest.TestCase):
 
 
 class Missing(unittest.TestCase):
-    """What a call says if there is no library."""
+    """The error of a call if there is no library."""
 
     def test_what_to_do(self):
         code = "from bootmem_tools import library; library.version()"

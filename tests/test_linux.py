@@ -1,6 +1,5 @@
-"""bootmem-linux: over each machine of examples/ the crash area and node data are the kernel's own;
-each claim of its log has a rule or a reason;
-and how the inputs are read."""
+"""bootmem-linux: on each machine of examples/ crash area and node data are the kernel's own, and each
+claim in the kernel's log has a rule, or a reason why it has none. Also how the inputs are read."""
 
 import collections
 import os
@@ -54,16 +53,16 @@ FRAME = 4096
 NODE_DATA = re.compile(r"NODE_DATA\((\d+)\) allocated \[mem 0x(\w+)-0x(\w+)\]")
 SETUP_DATA, BOOT_SERVICES = "memblock_x86_reserve_range_setup_data", "efi_reserve_boot_services"
 PAGE_TABLES = "alloc_low_pages"
-# The kernel functions whose claims bootmem-linux makes as a log has them.
+# The kernel functions whose claims bootmem-linux takes from a log.
 LOGGED = (
     "efi_memattr_init",
     "efi_tpm_eventlog_init",
     "acpi_reserve_initial_tables",
     BOOT_SERVICES,
 )
-# Who makes the claims of the kernels' logs, from the first dump of memblock to sparse_init's end:
-# the kernel function by whose rule bootmem-linux makes one without a log, the owner by whom bootmem
-# does, or why neither does; and how many there are.
+# The claims in the kernels' logs, from the first dump of memblock to the end of sparse_init, and how
+# many there are of each kind. A kind is the kernel function whose rule bootmem-linux follows without
+# a log, the owner for which bootmem makes the claim, or the reason why neither makes it.
 RULES = rows_of(
     """
 memblock_x86_reserve_range_setup_data | 6
@@ -91,7 +90,7 @@ reason: a page table of the memory map, which bootmem has none of | 94
 
 
 def boot_words(name):
-    """The program's words for a machine, with each file that it has."""
+    """The program's words for a machine, with all files of the machine."""
     words = words_of(name)
     for option, file in (("--efi", "efi.bin"), ("--slit", "slit.bin")):
         words = [option, file] * (has_file(name, file) and option not in words) + words
@@ -99,7 +98,7 @@ def boot_words(name):
 
 
 def linux_words(name):
-    """The words of bootmem-linux for a machine besides the program's."""
+    """The words for a machine that only bootmem-linux has."""
     return text_of(example(name, "linux")).split() if has_file(name, "linux") else []
 
 
@@ -107,8 +106,8 @@ USAGE, OWN_USAGE = 56, 40  # bytes of a section's usage data in these kernels an
 
 
 def part_of_sections(words):
-    """Who makes an allocation of sparse_init, as RULES has it, by the form of its words; None for
-    other words."""
+    """The kind in RULES of an allocation by sparse_init, which shows in the form of its words; None
+    for other words."""
     if words[0] != "alloc":
         return None
     size, form = int(words[2]), re.sub(r"0x\w+", "X", " ".join(words[3:]))
@@ -126,8 +125,8 @@ def part_of_sections(words):
 
 
 def kernel_claims(name):
-    """The claims of a kernel up to the end of sparse_init, in their order: first byte, the one past
-    the last, what asked as words, and whether it was freed."""
+    """The claims of a kernel up to the end of sparse_init, in their order: the first byte, the end,
+    the words of the claim, and whether it was freed."""
     script = [line.split() for line in text_of(example(name, "replay/script")).splitlines()]
     answers = dict(
         line.split(": ", 1) for line in text_of(example(name, "replay/script.txt")).splitlines()
@@ -158,7 +157,7 @@ def is_node_data(words):
     return words[0] == "alloc" and words[2:5] == ["176128", "64", "node"]
 
 
-# A line of --explain: the range of a `reserve`, or the size of an `alloc` and its place, what it is
+# A line of --explain: the range of a `reserve`, or the size and the place of an `alloc`; a description;
 # and the kernel function.
 EXPLAINED = re.compile(
     r"claim: (?:reserve \d+ (?P<base>0x\w+) (?P<bytes>0x\w+): done"
@@ -168,8 +167,8 @@ EXPLAINED = re.compile(
 
 
 def claims_in(err):
-    """The claims that bootmem61 made, by the lines of --explain: first byte, the one past the last,
-    and the kernel function. Of a line with several page tables each is a claim."""
+    """The claims that bootmem61 made, from the lines of --explain: first byte, end and kernel function.
+    A line with several page tables is one claim for each."""
     found = []
     for match in EXPLAINED.finditer(err):
         first = int(match["base"] or match["place"], 16)
@@ -180,7 +179,7 @@ def claims_in(err):
 
 
 def claims_by_rule(err):
-    """The same by kernel function."""
+    """The claims that bootmem61 made, by kernel function."""
     found = collections.defaultdict(list)
     for first, end, rule in claims_in(err):
         found[rule].append((first, end))
@@ -188,8 +187,8 @@ def claims_by_rule(err):
 
 
 class Boot:
-    """A machine's boot by bootmem-linux: its status and error, its claims with their rules, the
-    owners, and memory."""
+    """A machine's boot by bootmem-linux: status, standard error, claims with their rules, owners and
+    memory."""
 
     def __init__(self, name, *more):
         self.status, owners, self.err = tool(
@@ -216,7 +215,7 @@ class Boot:
         ]
 
     def places(self, *owners):
-        """The ranges of these owners, without their numbers, ascending."""
+        """The ranges of these owners in ascending order. The owners are named without their numbers."""
         return sorted(
             (first, end) for first, end, owner in self.owners if owner.split()[0] in owners
         )
@@ -228,7 +227,7 @@ def frames_of(first, end):
 
 
 def rule_of(claim, boot, given_back):
-    """Who makes a claim of the kernel, as RULES has it; None if nobody does and there is no
+    """The kind in RULES of a claim by the kernel; None if neither program makes it and there is no
     reason."""
     first, end, words, freed = claim
     if freed or (first, end) in given_back:
@@ -260,8 +259,8 @@ class Linux(Case):
     """Boots as Linux 6.1 makes them."""
 
     def test_boots(self):
-        """Crash area and node data are the kernel's own, and maps and usage data as many; each of
-        its claims up to the end of sparse_init has a rule or a reason."""
+        """Crash area and node data are the kernel's own, and there are equally many maps and usage data.
+        Each claim of the kernel up to the end of sparse_init has a rule or a reason."""
         counts, nodes, crashes, over = collections.Counter(), 0, 0, 0
         for name in machines():
             if not has_file(name, "replay/script"):
@@ -293,7 +292,7 @@ class Linux(Case):
                 )
                 counts[rule] += 1
             logged = {frames_of(first, end) for first, end, _, _ in claims}
-            # the kernel leaves boot services free that hold EFI's memory attributes (ovmf-2g-tpm)
+            # boot services that hold EFI's memory attributes stay free in the kernel (ovmf-2g-tpm)
             over += sum(
                 first >= MIB and frames_of(first, end) not in logged
                 for first, end, _ in boot.claims
@@ -308,8 +307,8 @@ class Linux(Case):
         )
 
     def test_nodes(self):
-        """Nodes and their data have the numbers that the kernel's log has, also with generic
-        initiators, of which the disabled one ends the processors' pass."""
+        """Nodes and their data have the numbers in the kernel's log, also with generic initiators. A
+        disabled initiator ends the pass over processors."""
         compared = []
         for name in machines():
             lines = text_of(example(name, "log")).splitlines() if has_file(name, "log") else []
@@ -332,12 +331,12 @@ class Linux(Case):
         self.check("linux: domains that a log has", compared, ["srat-initiator-off"])
 
     def test_logs(self):
-        """With the log of its own boot bootmem-linux claims the tables of EFI and ACPI that this
-        kernel claimed, and leaves free the boot services that it left free."""
+        """With the boot's own log bootmem-linux claims the same tables of EFI and ACPI as this kernel,
+        and leaves the same boot services free."""
         counts = collections.Counter()
         for name in machines():
             log = text_of(example(name, "log")) if has_file(name, "log") else ""
-            if "ACPI: Reserving" not in log:  # three have the lines about memory alone
+            if "ACPI: Reserving" not in log:  # three logs have only the lines about memory
                 continue
             boot = Boot(name, "--log", "log")
             for rule in LOGGED:
@@ -352,9 +351,9 @@ class Linux(Case):
         self.check("linux: claims by logs", all(counts[rule] for rule in LOGGED), True)
 
     def test_owned(self):
-        """A running kernel's map has the attribute of runtime services for boot services that hold
-        an earlier claim: these stay free. A kept part of a descriptor, a descriptor of one frame
-        and one outside memory are claimed, as are all if the map has only such."""
+        """In a running kernel's map, boot services that hold an earlier claim have the attribute of
+        runtime services. These stay free. Three others are claimed: a kept part of a descriptor, a
+        descriptor of one frame and one outside memory. If the map has no others, all are claimed."""
         name, log = "ovmf-2g-tpm", text_of(example("ovmf-2g-tpm", "log"))
         theirs = {
             (int(first, 16), int(last, 16) + 1)
@@ -425,7 +424,7 @@ class Linux(Case):
         )
 
     def test_alone(self):
-        """With UEFI firmware the crash area of the program alone lies elsewhere."""
+        """With UEFI firmware the crash area lies elsewhere if the program runs without the tool."""
         words = ["--report", "crash", *boot_words("ovmf-4g-numa2")]
         status, out, _ = tool("bootmem-linux", *words, folder=example("ovmf-4g-numa2"))
         self.check(
@@ -438,7 +437,7 @@ class Linux(Case):
         )
 
     def test_examples(self):
-        """The commands that --help shows run over a machine with UEFI firmware."""
+        """The commands in --help run over a machine with UEFI firmware."""
         shown = shown_examples("bootmem-linux")
         for command in shown:
             status, out, err = tool(*command.split(), folder=example("ovmf-4g-numa2"))
@@ -452,7 +451,7 @@ class Linux(Case):
         """--pages and --brk change what is claimed."""
         words = ["--explain", "--kernel", "64M,16M", "zp"]
         self.make(machine_of(GIB))
-        # with pages of 4 KiB 512 tables and two upper ones, of which brk has room for 16
+        # with pages of 4 KiB there are 512 tables and two upper ones; brk has room for 16 of them
         for more, brk, tables in (
             ([], 0x11000, 0),
             (["--brk", "32K"], 0x8000, 0),
@@ -465,13 +464,13 @@ class Linux(Case):
             self.check(f"linux {more}: page tables", len(found[PAGE_TABLES]), tables)
 
     def test_as_linux(self):
-        """Tools that run the program for their user's words take --as-linux, and the words are those of bootmem-linux then."""
+        """Tools that run the program with their user's words have --as-linux. The words are then those of bootmem-linux."""
         words = ["--as-linux", "--", "--pages", "2M", *boot_words("ovmf-4g-numa2")]
         folder = example("ovmf-4g-numa2")
         status, out, err = tool("bootmem-json", "--report", "crash", *words, folder=folder)
         self.check("json --as-linux: status", (status, "assumed: pages" in err, "unknown: " in err), (0, False, True))
         self.has("json --as-linux: the area", out, "0x0000000073000000")
-        # brk begins behind the image, at 0x1600000 + 0x3400000, and has 17 frames
+        # brk begins at the image's end, at 0x1600000 + 0x3400000, and has 17 frames
         for place, early in (("0x4a10fff", True), ("0x4a11000", False), ("0x49fffff", False)):
             status, out, _ = tool("bootmem-where", place, *words, folder=folder)
             self.check(f"where --as-linux {place}", (status, out.splitlines()[-1] == "early    brk 0x0000000004a00000-0x0000000004a10fff, "
@@ -486,7 +485,7 @@ class Linux(Case):
                                                                 folder=folder)[:2], (2, ""))
 
     def test_as_program(self):
-        """Other tools show a boot as Linux makes it if bootmem-linux is their program."""
+        """If bootmem-linux is the program of another tool, that tool shows a boot as Linux makes it."""
         linux = os.path.join(TOP, "tools", "bootmem-linux")
         words = ["--program", linux, "--", *boot_words("ovmf-4g-numa2")]
         folder = example("ovmf-4g-numa2")
@@ -517,7 +516,7 @@ class Linux(Case):
         self.make(entries)
         words = ["--kernel", "80M,52M", "--e820ext", "ext", "zp"]
         took, starts = [], []
-        for _ in range(3):  # the least counts: other programs run beside this one
+        for _ in range(3):  # the shortest run counts, because other processes run, too
             time, _ = self.timed("--help")
             starts.append(time)
             time, (status, out, err) = self.timed("--report", "summary", "--explain", *words)
@@ -528,12 +527,12 @@ class Linux(Case):
                 (0, "runs 3173", True),
             )
             if b"__asan_init" in bytes_of(PROGRAM61):
-                return  # a sanitizer's program takes its own time
+                return  # a program with sanitizers is slower
         bound = max(0.5, 10 * min(starts))
         self.check(f"linux, 3,172 entries: {min(took)} s, at most {bound}", min(took) < bound, True)
 
     def timed(self, *words):
-        """The processor time of a run of the tool in seconds, and what it came to."""
+        """The processor time of a run of the tool in seconds, and the result of the run."""
         before = resource.getrusage(resource.RUSAGE_CHILDREN)
         result = tool("bootmem-linux", *words, folder=self.work)
         after = resource.getrusage(resource.RUSAGE_CHILDREN)
@@ -546,8 +545,8 @@ class Linux(Case):
             write(self.path(name), data)
 
     def linux(self, *words):
-        """Status, output and the lines of standard error that say what was changed, of a run in
-        the test's folder."""
+        """Runs the tool in the test's folder. Returns status, output and the lines of standard error on
+        changes."""
         status, out, err = tool("bootmem-linux", *words, folder=self.work)
         return (
             status,
@@ -560,8 +559,8 @@ class Linux(Case):
         )
 
     def test_inputs(self):
-        """The line, the extension, EFI's memory of specific purpose, the image: as the kernel
-        reads them."""
+        """The command line, the extension, EFI's specific-purpose memory and the image are read as the
+        kernel reads them."""
         self.make(machine_of(GIB), line="mem=512MB crashkernel=64Mx")
         status, out, said = self.linux("--report", "map", "--cmdline", "line", "zp")
         self.check(
@@ -696,7 +695,7 @@ class Linux(Case):
 
 
 def processor(domain, kind=2, flags=1, number=0):
-    """An entry of the processors' pass: an x2APIC one, or a generic initiator."""
+    """An entry for the pass over processors: an x2APIC entry, or a generic initiator."""
     if kind == 5:
         return struct.pack("<BBBBI16sI4x", 5, 32, 0, 1, domain, bytes(16), flags)
     return struct.pack("<BBHIII8x", 2, 24, 0, domain, number, flags)
@@ -706,8 +705,8 @@ class Srat(Case):
     """SRATs as the kernel reads them."""
 
     def domains(self, *entries, x2apic=False):
-        """The domains that the table names in the processors' pass, and its blocks; None if it is
-        dropped."""
+        """The domains that the pass over processors finds in the table, and its blocks; None if the
+        table is dropped."""
         reading = linux_srat.read_table(srat(*entries), x2apic)
         if reading.table is None:
             return None
@@ -774,16 +773,15 @@ LOG = """[    0.000000] efi: SMBIOS=0x3f9ab000 ACPI=0x3fb7d000 MEMATTR=0x3e4f301
 
 
 class Told(Case):
-    """What no input of the program tells: a log of the kernel, areas of cma= and hugetlb_cma=."""
+    """Claims that the program's inputs don't show: those in a log, and the areas of cma= and hugetlb_cma=."""
 
     def linux(self, *words):
-        """The claims of a run over the test's files by their kernel function, its status and output."""
+        """Runs over the test's files. Returns the claims by kernel function, the status and the output."""
         status, out, err = tool("bootmem-linux", "--explain", *words, folder=self.work)
         return claims_by_rule(err), status, out, err
 
     def test_log(self):
-        """All nodes of setup_data, ACPI tables and EFI's tables are claimed if a log tells them; descriptors of boot services with such a
-        table aren't."""
+        """If a log has them, all nodes of setup_data and all tables of ACPI and EFI are claimed. Boot services with such a table aren't."""
         page = bytearray(inputs.zero_page(machine_of(GIB)))
         struct.pack_into("<Q", page, linux_claims.SETUP_DATA, 0x30001000)
         page[linux_claims.EFI_INFO:linux_claims.EFI_INFO + 4] = b"EL64"
@@ -809,7 +807,7 @@ class Told(Case):
         self.check("no such log", tool("bootmem-linux", "--log", "none", *words, folder=self.work)[:2], (2, ""))
 
     def test_nodes(self):
-        """Pieces of RAM that touch are RAM and nodes in turn; the first node says which are which."""
+        """Adjoining pieces of RAM are RAM and nodes in turn. The first node shows which are which."""
         pieces = [(0, 8), (16, 32), (32, 40), (40, 48), (64, 72), (72, 80)]
         for first, wanted in ((32, [(32, 40), (72, 80)]), (16, [(16, 32), (40, 48), (72, 80)]), (64, [(32, 40), (64, 72)])):
             self.check(f"setup_data from {first} on", list(linux_log.nodes_of(pieces, first)), wanted)
@@ -825,7 +823,8 @@ class Told(Case):
             self.has("a node is claimed", out, "0x0000000030001000..0x000000003000100f script 4000000000\n")
 
     def test_cma(self):
-        """cma= lies as low as it can above 4 GiB, else as high as it can below node data, in whole 2 MiB; the crash area comes after it."""
+        """The area of cma= is placed as low as possible above 4 GiB, or else as high as possible below node data, in units of 2 MiB. The
+        crash area is placed after it."""
         write(self.path("small"), inputs.zero_page(machine_of(GIB)))
         write(self.path("large"), inputs.zero_page(machine_of(8 * GIB)))
         # on the machine of 1 GiB node data has the last 172 KiB of RAM, which ends at 0x3ffdf000
@@ -850,7 +849,7 @@ class Told(Case):
                    ([], "crash at 0x0000000037000000..0x000000003effffff\n", True))
 
     def test_hugetlb(self):
-        """hugetlb_cma= has whole GiB on the nodes, if there are pages of 1 GiB."""
+        """The areas of hugetlb_cma= are whole GiB on the nodes, if the processor has pages of 1 GiB."""
         write(self.path("zp"), inputs.zero_page(machine_of(12 * GIB)))
         write(self.path("srat"), srat(memory_of(0, 0, 6 * GIB), memory_of(1, 6 * GIB, 7 * GIB)))
         # of 3 GiB node 0 gets half, rounded up to 2 GiB: node data leaves too little from 4 GiB on, so the area ends below 3 GiB
@@ -869,7 +868,7 @@ class Told(Case):
         self.check("half of 3 GiB, rounded up, is all that is left", sizes, [2 * GIB, GIB])
 
     def test_initrd(self):
-        """An initrd that mem= leaves unmapped moves to the highest place that is mapped, and node data comes after it."""
+        """An initrd in memory that mem= removes moves to the highest mapped place. Node data is placed after it."""
         write(self.path("zp"), inputs.zero_page(machine_of(GIB), (768 * MIB, 16 * MIB)))
         for line, place, moves in (("mem=512M", 496 * MIB, True), ("mem=800M", 768 * MIB, False)):
             write(self.path("line"), line)
@@ -883,9 +882,8 @@ class Told(Case):
         self.has("node data", out, f"{496 * MIB - 0x2B000:#018x}..{496 * MIB - 1:#018x} node-data 0\n")
 
     def test_growth(self):
-        """200 boot services apart from each other make the reserved table grow, twice. It then lies
-        in a gap, unless each gap is shorter than the table: then one range isn't claimed, which is
-        said."""
+        """200 boot services that don't adjoin make the reserved table grow twice. It then lies in a gap.
+        If each gap is too small for the table, one range isn't claimed, and a line says so."""
         write(self.path("zp"), inputs.zero_page(machine_of(GIB)))
         words = ["--report", "tables", "--kernel", "64M,16M", "--efi", "efi", "zp"]
         for gap, refused in ((16, 0), (1, 1)):
@@ -899,8 +897,8 @@ class Told(Case):
             self.has(f"gaps of {gap} pages: the table", out, " room 256 records ")
 
     def test_claims_file(self):
-        """The file of early claims: a form for each kind of claim. The tool's own users can't name
-        one, and one that is too long is refused."""
+        """The file of early claims has one form for each kind of claim. Users of the tool can't name
+        such a file. A file that is too long is refused."""
         claim = linux_claims.Claim
         for made, lines in (
             (claim(4096, 8192, "x", "f"), ["reserve 4000000000 0x1000 0x1000"]),
@@ -918,7 +916,7 @@ class Told(Case):
             as_linux.claims_file([line] * 1024 + [""])
 
     def test_gigantic(self):
-        """nogbpages forbids pages of 1 GiB: each GiB then has a table, of which brk has room for 16 with the upper ones."""
+        """nogbpages forbids pages of 1 GiB, so each GiB needs a table. brk has room for 16 tables, including the upper ones."""
         write(self.path("zp"), inputs.zero_page(machine_of(40 * GIB)))
         counts = []
         for pages, line in (("1G", "quiet"), ("1G", "nogbpages"), ("2M", "quiet")):
@@ -927,7 +925,7 @@ class Told(Case):
         self.check("page tables of memblock", (counts[0] < 16, counts[1] > 20, counts[1] == counts[2]), (True, True, True))
 
     def test_mirrored(self):
-        """Mirrored memory of EFI counts as any other unless the line has kernelcore=mirror."""
+        """EFI's mirrored memory is treated like any other unless the line has kernelcore=mirror."""
         write(self.path("zp"), inputs.zero_page(machine_of(GIB)))
         write(self.path("efi"), inputs.efi_map([(7, 128 * MIB, 4096, 0x1000F)]))
         for line, wanted in (("quiet", False), ("kernelcore=mirror", True), ("kernelcore=1G", False)):
@@ -938,17 +936,17 @@ class Told(Case):
 
 
 class Tables(Case):
-    """Page tables of the direct map, and other rules alone."""
+    """Page tables of the direct map and other rules, each tested by itself."""
 
     def pages(self, memory, largest, five=False, random=False, brk=64 * MIB):
-        """How many pages of memblock and how many of brk become tables."""
+        """The numbers of page tables that memblock and brk provide."""
         made = DirectMap(memory, Free(memory), brk, largest, five, random)
         made.make(max(end for _, end in memory))
         return len(made.pages), (made.brk - brk) // FRAME
 
     def test_pages(self):
-        """By hand: a table for each 2 MiB, 1 GiB and 512 GiB that has no larger page; a page more
-        with KASLR, two with five levels."""
+        """Counted by hand: a table for each 2 MiB, 1 GiB and 512 GiB that isn't one larger page. KASLR
+        needs one page more, and with five levels two."""
         memory = [(FRAME, 640 << 10), (MIB, 4 * GIB)]
         # one table for 512 GiB, one for each GiB, and one for the first 2 MiB, which aren't memory
         # whole; larger pages need less
@@ -962,8 +960,8 @@ class Tables(Case):
         )
 
     def test_log(self):
-        """The log buffer: a power of two above 128 KiB, with 24 and 88 bytes for each 32 bytes of
-        it."""
+        """The log buffer is a power of two above 128 KiB. For each 32 bytes of it, 24 and 88 bytes are
+        claimed besides."""
         for value, sizes in (
             ("1M", [MIB, 24 * 32768, 88 * 32768]),
             ("128K", []),

@@ -1,5 +1,5 @@
-"""bootmem-linux and the map: descriptors of EFI that Linux drops, the image as RAM after EFI's map
-was added, and nodes of setup_data."""
+"""bootmem-linux and the map: EFI's descriptors that Linux drops, the image, which becomes RAM after
+EFI's map has been added, and nodes of setup_data."""
 
 import os
 import re
@@ -21,10 +21,10 @@ BAD = [LOW, (MIB, 31 * MIB, RAM), (32 * MIB, 2 * MIB, RESERVED), (34 * MIB, 200 
 
 
 class Map(Case):
-    """Maps as the kernel makes them."""
+    """The map as the kernel makes it."""
 
     def linux(self, *words):
-        """Status, output and standard error of a run in the test's folder."""
+        """Runs the tool in the test's folder. Returns status, output and standard error."""
         return tool("bootmem-linux", *words, folder=self.work)
 
     def make(self, entries, line, descriptors=()):
@@ -36,8 +36,8 @@ class Map(Case):
         return ["--cmdline", "line", "--efi", "efi", "--e820ext", "ext", "zp"]
 
     def test_far(self):
-        """A descriptor that ends beyond 2^64 or has no pages is left out, the others are claimed;
-        the program refuses the far one."""
+        """Descriptors that end past 2^64 or have no pages are left out, and the others are claimed. The
+        program itself refuses the far one."""
         for what, one, said in (
             ("far", (7, TOP - 8192, 3, 15), "its 0x3 pages end beyond 2^64"),
             ("up to 2^64", (7, TOP - 4096, 1, 15), "its 0x1 pages end beyond 2^64"),
@@ -69,8 +69,8 @@ class Map(Case):
                  "changed: 2 more descriptors of EFI's memory map: left out")
 
     def test_far_added(self):
-        """With add_efi_memmap the kernel adds a far descriptor to its map before it drops it,
-        which the tool says; the rest is added."""
+        """With add_efi_memmap the kernel adds a far descriptor to its map before it drops it. The tool
+        says so, and adds the other descriptors."""
         added = (7, 2 * GIB, 256, 15)
         for line, one, says in (("add_efi_memmap", (7, TOP - 4096, 1, 15), True),
                                 ("add_efi_memmap=1", (7, TOP - 4096, 1, 15), True),
@@ -86,8 +86,7 @@ class Map(Case):
                        "0x0000000080000000..0x00000000800fffff 1 usable" in out, line != "quiet")
 
     def test_clean(self):
-        """What is left of a map: the bytes of the other descriptors; a malformed map stays as it
-        is."""
+        """The remaining map has the bytes of the other descriptors. A malformed map stays as it is."""
         one, other, far = SERVICES, (7, 2 * GIB, 256, 0x4000F), (7, TOP - 4096, 9, 15)
         cleaned = linux_map.clean_descriptors(inputs.efi_map([one, far, other]))
         self.check("the others", (cleaned.data, [place for place, _ in cleaned.dropped]),
@@ -98,8 +97,8 @@ class Map(Case):
             self.check(what, linux_map.clean_descriptors(data), (data, []))
 
     def test_image(self):
-        """The image is RAM after EFI's map was added: where the zero page or EFI's map says
-        otherwise, or the line does."""
+        """The image becomes RAM after EFI's map has been added, whatever the zero page, EFI's map or the
+        command line says."""
         efi = [(7, GIB, 256, 15), (6, GIB + MIB, 1, 0x800000000000000F)]
         added = ["0x0000000040000000..0x00000000400fffff 1 usable",
                  "0x0000000040100000..0x0000000040100fff 2 reserved"]
@@ -136,8 +135,8 @@ class Map(Case):
                        (True, False))
 
     def test_image_in_table(self):
-        """The table that is made: as many entries as there are, in the zero page and an
-        extension; other fields stay."""
+        """The new table has all entries, in the zero page and an extension. Other fields of the zero page
+        stay."""
         entries = [(0, 10, 1), (10, 30, 2), (50, 50, 3), (200, 10, 4)]
         for span, wanted in (((20, 60), [(0, 10, 1), (10, 10, 2), (20, 40, 1), (60, 40, 3),
                                          (200, 10, 4)]),
@@ -163,7 +162,7 @@ class Map(Case):
                    (0, []))
 
     def test_line(self):
-        """The words that change the map go, the others and what follows -- stay."""
+        """Words that change the map are removed. Other words, and the words after --, stay."""
         for line, wanted in (("quiet mem=1G memmap=1M$1M a=b", "quiet a=b"), ("add_efi_memmap",
                                                                               ""),
                              ("mem=1G -- mem=2G", "-- mem=2G"),
@@ -182,11 +181,10 @@ reserve setup_data: [mem 0x0000000030100020-0x000000003ffdefff] usable
 
 
 class Nodes(Case):
-    """Nodes of setup_data: RAM that they have gets type 128 (e820__reserve_setup_data)."""
+    """Nodes of setup_data: their RAM gets type 128 (e820__reserve_setup_data)."""
 
     def runs(self, words, settings, folder=None):
-        """The runs of type 128 in the inputs as they are read: the first byte of each and the one
-        past its last."""
+        """The runs of type 128 in the inputs: first byte and end of each."""
         with as_linux.prepared(PROGRAM61, words, settings, folder) as boot:
             out = program(self.work, "--report", "map", *boot.words, path=PROGRAM61)
         return [(int(first, 16), int(last, 16) + 1) for first,
@@ -199,8 +197,8 @@ class Nodes(Case):
         return bytes(page)
 
     def test_types(self):
-        """Each node that a log tells has the type, also beside add_efi_memmap and edits; without
-        a log the first one, as long as the extension or EFI's loader data is."""
+        """Each node in a log has the type, also with add_efi_memmap and edits. Without a log only the
+        first node has it. Its length is that of the extension or of EFI's loader data."""
         write(self.path("zp"), self.page())
         write(self.path("log"), LOG)
         told = as_linux.Settings(told=linux_log.read_log(self.path("log")))
@@ -224,8 +222,7 @@ class Nodes(Case):
                                         *words], told), wanted)
 
     def test_image_and_node(self):
-        """Where the map is made anew for the image, a node keeps its length, which the extension
-        tells."""
+        """If the map is made anew for the image, a node keeps the length that the extension has."""
         page = bytearray(inputs.zero_page(BAD))
         struct.pack_into("<Q", page, linux_claims.SETUP_DATA, 0x8000000)
         for name, data in (("zp", bytes(page)), ("line", b"add_efi_memmap"), ("ext",
@@ -237,8 +234,7 @@ class Nodes(Case):
                                                                         0x8000000 + 56)])
 
     def test_claimed(self):
-        """Each node is claimed, from the log of --log and from the one in a folder of
-        bootmem-fleet."""
+        """Each node is claimed, whether the log is that of --log or the one in a folder of bootmem-fleet."""
         os.makedirs(self.path("host"))
         for name, data in (("zp.bin", self.page()), ("log", LOG), ("kernel", "64M,16M")):
             write(self.path("host", name), data)

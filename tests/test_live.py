@@ -1,4 +1,4 @@
-"""bootmem-live: machines on which the kernel has what the program says, and differences of every kind."""
+"""bootmem-live: machines on which the kernel agrees with the program, and every kind of difference."""
 
 import os
 import re
@@ -30,7 +30,7 @@ Node 1, zone   Normal
 
 
 def live(place, *words):
-    """What bootmem-live answers for a stand-in."""
+    """Runs bootmem-live for an imitated machine."""
     return tool("bootmem-live", "--sys", os.path.join(place, "sys"), "--proc", os.path.join(place, "proc"), *words)
 
 
@@ -38,17 +38,17 @@ class Live(Case):
     """A running kernel against the program."""
 
     def edit(self, place, name, before, after):
-        """What bootmem-live answers where a part of a file of /proc is another."""
+        """Runs bootmem-live after a part of a file of /proc was replaced, and restores the file."""
         path = os.path.join(place, "proc", name)
         text = text_of(path)
-        self.check(f"live: {before!r} stands in {name}", text.count(before) >= 1, True)
+        self.check(f"live: {before!r} is in {name}", text.count(before) >= 1, True)
         write(path, text.replace(before, after).encode())
         answer = live(place)
         write(path, text.encode())
         return answer
 
     def test_agrees(self):
-        """Machines on which the kernel has what the program tells, and differences of every kind."""
+        """Machines on which the kernel agrees with the program, and every kind of difference."""
         for name in ("q35-1g", "q35-2g-numa2", "zp-holes129", "pc-1g-memmapmix", "srat-slit"):
             status, out, err = live(stand_in(self.work, name))
             kinds = [line.split()[0] for line in out.splitlines()[1:-1] if not line.startswith("noted")]
@@ -86,7 +86,7 @@ class Live(Case):
                    (0, True))
 
     def test_hidden(self):
-        """Addresses that are hidden, and what isn't there at all."""
+        """Hidden addresses, and missing files."""
         place = stand_in(self.work, "q35-1g")
         write(os.path.join(place, "proc/iomem"), re.sub(r"[0-9a-f]+-[0-9a-f]+ :", "00000000-00000000 :",
                                                         text_of(os.path.join(place, "proc/iomem"))).encode())
@@ -99,7 +99,7 @@ class Live(Case):
         self.check("live: no zero page", live(place)[:2], (2, ""))
 
     def test_hull(self):
-        """A zone that reaches to its border in the kernel, since its node goes on behind a hole, is the one that bootmem tells."""
+        """In the kernel a zone reaches up to its border if its node goes on past a hole. The program has the same zone."""
         name = "q35-8g-numa2"
         for part in ("sys/kernel/boot_params", "sys/firmware/acpi/tables", "proc"):
             os.makedirs(self.path(name, part))
@@ -112,8 +112,7 @@ class Live(Case):
                    (0, "4 agree, 0 differ as docs/KERNEL.md says, 0 differ, 2 can't be compared"))
 
     def test_folders(self):
-        """The kept folder of every boot: all agrees. By the program alone the area of the boot with UEFI differs, as a row of
-        KERNEL.md says."""
+        """The kept folder of every boot agrees. With --raw the area of the boot with UEFI differs, as a row of KERNEL.md says."""
         rows = text_of(os.path.join(TOP, "docs", "KERNEL.md"))
         for name in BOOTS:
             status, out, err = tool("bootmem-live", folder_of(self, name))
@@ -128,12 +127,12 @@ class Live(Case):
                  "by bootmem: the kernel claims more before it: docs/KERNEL.md, row efi_init, efi_reserve_boot_services\n")
 
     def test_known(self):
-        """Differences that a row of KERNEL.md has are known, and the row is there: an image outside RAM with its zone, a domain of 1,024, and
-        boot services' data that a UEFI machine's kernel keeps."""
+        """A difference with a row in KERNEL.md is known, and the row exists: an image outside RAM with its zone, a domain of 1,024, and
+        boot services' data that the kernel of a UEFI machine keeps."""
         rows = text_of(os.path.join(TOP, "docs", "KERNEL.md"))
 
         def found(folder, status, *more):
-            """The lines that begin with known or differs, their rows looked up."""
+            """The lines that begin with known or differs. Their rows are looked up."""
             got, out, err = tool("bootmem-live", *more, folder)
             self.check(f"live: {folder}", (got, err), (status, ""))
             lines = [line for line in out.splitlines() if line.startswith(("known", "differs"))]
@@ -183,7 +182,7 @@ class Live(Case):
             self.check(f"not kept: {descriptor}", [text[:7] for text in found(folder, 1)], ["differs"])
 
     def test_crash_areas(self):
-        """Crash areas that differ, lines that the kernel reads otherwise, what doesn't stand beside a folder; what --keep keeps."""
+        """Crash areas that differ, lines that the kernel reads differently, words that exclude a folder, and the files of --keep."""
         folder = folder_of(self, "q35-8g-numa2")
         shown = text_of(os.path.join(folder, "iomem"))
         for before, after, status, part in (
@@ -191,7 +190,7 @@ class Live(Case):
                 ("000000006f000000-000000007effffff : Crash", "0000000070000000-000000007fffffff : Crash", 1, "differs  crash area: "),
                 ("000000006f000000-000000007effffff : Crash", "000000006f000000-0000000076ffffff : Crash", 1, "differs  crash area: "),
                 ("  000000006f000000-000000007effffff : Crash kernel\n", "", 1, "differs  crash area: none here, ")):
-            self.check(f"live: {before!r} stands there", before in shown, True)
+            self.check(f"live: {before!r} is there", before in shown, True)
             write(os.path.join(folder, "iomem"), shown.replace(before, after).encode())
             got, out, _ = tool("bootmem-live", folder)
             self.check(f"live: {after!r}", (got, part in out), (status, True))

@@ -1,4 +1,4 @@
-"""zp-from-log: the SRAT that a log tells, a folder of all inputs, and sources that aren't logs:
+"""zp-from-log: the SRAT from a log, a folder with all inputs, and other sources than logs:
 /sys/firmware/memmap, /proc/iomem and a sosreport."""
 
 import os
@@ -7,8 +7,8 @@ import unittest
 
 from support import Case, bytes_of, entries_of, example, has_file, program, text_of, tool, words_of, write
 
-# What the kernels of these machines logged of their SRATs; nodes.txt beside a machine is what its
-# kernel made of it.
+# The lines that the kernels of these machines logged on their SRATs. nodes.txt of a machine has the
+# nodes that the kernel made of it.
 LOGGED = {
     "pc-6g-numa2-hole": """SRAT: PXM 0 -> APIC 0x00 -> Node 0
 SRAT: PXM 1 -> APIC 0x01 -> Node 1
@@ -62,9 +62,9 @@ MAP = """BIOS-provided physical RAM map:
 BIOS-e820: [mem 0x0000000000000000-0x000000000009fbff] usable
 BIOS-e820: [mem 0x0000000000100000-0x00000000bfffffff] usable
 """
-# A table's entries from byte 48 on, by the lines that name them: processors with an APIC id of 254
-# and an x2APIC id of 256, in domains 0x12345 and 7; memory that is hot-pluggable and non-volatile,
-# that has no byte, and that passes 2^64.
+# The entries of a table, from byte 48 on, and the log's lines on them: processors with an APIC ID of
+# 254 and an x2APIC ID of 256, in domains 0x12345 and 7; memory that is hot-pluggable and
+# non-volatile, that is empty, and that passes 2^64.
 RARE = """SRAT: PXM 74565 -> APIC 0xfe -> Node 0
 SRAT: PXM 7 -> APIC 0x0100 -> Node 1
 SRAT: PXM 9 -> X2APIC 0x0200 ignored
@@ -81,7 +81,7 @@ RARE_ENTRIES = bytes.fromhex(
     "0128 03000000 0000 0000004000000000 0000000000000000 00000000 01000000 0000000000000000"
     "0128 03000000 0000 00f0ffffffffffff 0000000000000000 00000000 01000000 0000000000000000")
 
-# What a kernel shows of a machine of 3 GiB, and the entries that stand for it.
+# What a kernel shows of a machine of 3 GiB, and the zero page's entries for it.
 IOMEM = """00000000-00000fff : Reserved
 00001000-0009fbff : System RAM
 0009fc00-000fffff : Reserved
@@ -109,12 +109,12 @@ MEMMAP_ENTRIES = [(0, 0x9FC00, 1), (0x9FC00, 0x60400, 2), (0x100000, 0xBFF00000,
 
 
 def stamped(text):
-    """The lines with time stamps."""
+    """These lines, each with a time stamp."""
     return "".join(f"[    0.{number:06}] {line}\n" for number, line in enumerate(text.splitlines()))
 
 
 class Sources(Case):
-    """Inputs made of what a kernel tells."""
+    """Inputs made from what a kernel logs or shows."""
 
     def memmap(self, folder, rows):
         """A folder like /sys/firmware/memmap with these rows."""
@@ -124,7 +124,7 @@ class Sources(Case):
                 write(os.path.join(folder, str(number), name), f"{text}\n")
 
     def made(self, *words, given=""):
-        """The entries of the zero page that the tool makes, or what it says if it makes none."""
+        """The entries of the zero page that the tool makes; if it makes none, its message."""
         status, out, err = tool("zp-from-log", "--output", "zp", "--no-initrd", *words, given=given, folder=self.work)
         if status:
             return status, out, err
@@ -132,7 +132,7 @@ class Sources(Case):
         return entries_of(page, page[0x1E8], 0x2D0)
 
     def test_srat(self):
-        """The SRAT that a kernel logged gives the nodes that this kernel made of its own."""
+        """The SRAT from a kernel's log gives the same nodes that the kernel made of the real table."""
         for name, lines in LOGGED.items():
             status, out, err = tool("zp-from-log", "--output", "zp", "--srat", "srat", "--no-initrd", given=stamped(MAP + lines), folder=self.work)
             self.check(f"{name}: status", (status, out, err), (0, "", ""))
@@ -148,7 +148,7 @@ class Sources(Case):
                    "numa no blocks")
 
     def test_no_srat(self):
-        """Logs without a whole SRAT."""
+        """Logs that lack the SRAT or parts of it."""
         for lines, status, said in (
                 (LOGGED["pc-6g-numa2-hole"] + "ACPI: SRAT: SRAT not used.\n", 0, "the kernel dropped its SRAT ('SRAT not used'), so none is made"),
                 ("ACPI: SRAT 0x000000007FFE23D2 000160 (v01 BOCHS  BXPC     00000001 BXPC 00000001)\nNUMA turned off\n", 0,
@@ -168,7 +168,7 @@ class Sources(Case):
                    (1, "", "zp-from-log: no line 'SRAT: Node 0 PXM 0 [mem ", False))
 
     def test_folder(self):
-        """A folder of all that a log tells gives the crash area and the map that this kernel had."""
+        """A folder with all inputs from a log gives the crash area and the map of that kernel."""
         os.makedirs(self.path("here"))
         write(self.path("here", "efi.bin"), b"of another boot")
         log = text_of(example("q35-8g-numa2", "log"))
@@ -213,7 +213,7 @@ next: cd here && bootmem --cmdline cmdline --kernel 0x1000000,0x3400000 zp.bin
         self.check("what was read stays", (text_of(self.path("log")), text_of(self.path("zp.bin"))), (MAP, MAP))
 
     def test_shown(self):
-        """What a running kernel shows: /sys/firmware/memmap and /proc/iomem."""
+        """The files of a running kernel: /sys/firmware/memmap and /proc/iomem."""
         self.memmap(self.path("memmap"), MEMMAP)
         self.check("memmap", self.made("memmap"), MEMMAP_ENTRIES)
         self.check("iomem", self.made(given=IOMEM), IOMEM_ENTRIES)
@@ -248,7 +248,7 @@ next: cd here && bootmem --cmdline cmdline --kernel 0x1000000,0x3400000 zp.bin
                     ["cmdline", "kernel", "release", "srat.bin", "zoneinfo", "zp.bin"]))
         same = [name for name in ("cmdline", "srat.bin") if bytes_of(self.path("here", name)) == bytes_of(example("q35-8g-numa2", name))]
         self.check("sosreport: copies", same, ["cmdline", "srat.bin"])
-        # a dmesg whose first lines are gone: memmap stands for it, and the image's place is that of iomem
+        # a dmesg that lacks its first lines: the map is that of memmap, and the image's place that of iomem
         write(os.path.join(report, "sos_commands/kernel/dmesg"), "[ 9999.0] usb 1-1: new device\n")
         write(os.path.join(report, "proc/iomem"), IOMEM)
         self.memmap(os.path.join(report, "sys/firmware/memmap"), MEMMAP)

@@ -1,5 +1,5 @@
-"""Errors that have one obvious next command name it in a line `next:`, and the command does what
-is lacking; other errors have no such line."""
+"""If an error has one obvious remedy, a line `next:` names the command, and this command works.
+Other errors have no such line."""
 
 import os
 import shlex
@@ -15,7 +15,7 @@ ZONES = "Node 0, zone   Normal\n        spanned  1\n        present  1\nNode 1, 
 
 
 def next_of(err):
-    """The commands of the lines `next:`."""
+    """The commands in the lines `next:`."""
     return [line.removeprefix("next: ") for line in err.splitlines() if line.startswith("next: ")]
 
 
@@ -30,8 +30,8 @@ class Next(Case):
         return self.path(name)
 
     def run_next(self, err, wanted):
-        """The status of the one command of the lines `next:` as a shell runs it, with the tools
-        on the PATH. It is run only if it is the wanted one: another could start a build."""
+        """Runs the only command in the lines `next:` in a shell, with the tools on the PATH, and returns
+        its status. Only the expected command is run, because another one could start a build."""
         self.check("the next command", next_of(err), [wanted])
         if next_of(err) != [wanted]:
             return None
@@ -40,8 +40,8 @@ class Next(Case):
         return ran(["sh", "-c", wanted], folder=self.work, variables=tools)[0]
 
     def test_page(self):
-        """A folder without a zero page: gather it, or make it from the log there, or name the
-        folders in it."""
+        """If a folder has no zero page, the command gathers it, makes it from the folder's log, or names
+        the folders in it."""
         self.gather("empty")
         for name in ("bootmem-crash", "bootmem-live"):
             status, out, err = tool(name, "empty", folder=self.work)
@@ -67,8 +67,8 @@ class Next(Case):
                    (2, True, [f"{COLLECT} empty"]))
 
     def test_srat(self):
-        """A folder without an SRAT, whose kernel has several nodes: root gathers it, or a log in
-        the folder has it."""
+        """If a folder has no SRAT but its kernel has several nodes, the command gathers the table as root,
+        or makes it from the folder's log."""
         folder = self.gather("host", "zp.bin", "cmdline", "words")
         for name, found in (("bootmem-crash", 2), ("bootmem-live", 1)):
             _, out, err = tool(name, folder)
@@ -93,7 +93,7 @@ class Next(Case):
                                                               folder=self.work)[2]), [])
 
     def test_files(self):
-        """Files that the words name and that aren't there, by the names of bootmem-collect."""
+        """Missing files that have the names of bootmem-collect."""
         self.gather("host", "zp.bin", "cmdline")
         for words, wanted in ((["--srat", "srat.bin", "zp.bin"], [f"sudo {COLLECT} ."]),
                               (["--efi", "efi.bin", "zp.bin"], [f"sudo {COLLECT} ."]),
@@ -108,8 +108,8 @@ class Next(Case):
                                                                             wanted))
 
     def test_program(self):
-        """No program: the repository's is made; one that is named and can't be run has no such
-        line, unless it is a repository's."""
+        """If there is no program, the command makes the repository's. A named program that can't be run has
+        no such line, unless it belongs to a repository."""
         for name in ("Makefile", "tools/collect.sh"):
             os.makedirs(os.path.dirname(self.path("a clone", name)), exist_ok=True)
             write(self.path("a clone", name), "")
@@ -137,8 +137,8 @@ class Next(Case):
                        (2, b"", 1 + len(wanted), wanted))
 
     def test_library(self):
-        """No library: the repository's is made, or named if it is there; an installation has no
-        such line."""
+        """If there is no library, the command makes the repository's, or names it if it exists. An
+        installation has no such line."""
         os.makedirs(self.path("clone", "tools"))
         write(self.path("clone", "Makefile"), "")
         for place in ("clone/tools", "site"):
@@ -160,7 +160,7 @@ class Next(Case):
 
     @unittest.skipUnless(shutil.which("cargo"), "there is no cargo: the build in Rust isn't run")
     def test_rust(self):
-        """The build in Rust without the library, in the sources and apart from them."""
+        """A build in Rust without the library, inside and outside the sources."""
         for place, wanted in (("clone/bindings/rust",
                                [f"make -C '{os.path.realpath(self.path('clone'))}' lib && "
                                                       f"export BOOTMEM_LIB_DIR='{os.path.realpath(self.path('clone'))}'"]), ("share/rust", [])):

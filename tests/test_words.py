@@ -1,6 +1,6 @@
-"""The words of tools/bootmem_tools/words.txt are those of the programs: their definitions have the
-same options, reports and inputs, the program takes each and no other, and so have README.md, the
-manual pages, docs/FORMATS.md, the tools' grammar and what the completions for bash answer."""
+"""tools/bootmem_tools/words.txt has the options, reports and inputs of the programs. The same words
+are in the programs' definitions, README.md, the manual pages, docs/FORMATS.md, the tools' grammar
+and the completions for bash; and a program takes each of them, and no other."""
 
 import os
 import re
@@ -17,8 +17,8 @@ REPORTS = sorted(words.REPORTS)
 OPTIONS61 = sorted(f"--{name}" for name in words.BOOTMEM61.options)
 REPORTS61 = sorted(words.BOOTMEM61.reports)
 PROGRAM61 = os.path.join(TOP, "bootmem61")
-# A value that each option takes, but those for files, which get bytes that no input may have: the
-# line of the fault names the input.
+# A value for each option. Options for files get bytes that are wrong for every input, so that the
+# program's line names the input.
 VALUES = {"RANGES": "64M,16M", "BASE,SIZE": "0x1000000,0x3400000", "LIST": "map", "N": "3"}
 
 
@@ -38,7 +38,7 @@ def section(program, name):
 
 
 def marked_options(program):
-    """The options of which the section OPTIONS of a manual page has an entry."""
+    """The options with an entry in the section OPTIONS of a manual page."""
     return options_in("\n".join(re.findall(r"^\.BI? .*", section(program, "OPTIONS"), re.MULTILINE)))
 
 
@@ -48,17 +48,17 @@ def synopsis(program, *names):
 
 
 def codes_in(crate, name, form):
-    """The words of a definition, in their order: what `codes` has in the parts of its file that
-    have this form."""
+    """The words of a definition in their order: the arguments of `codes` in the parts of the file that
+    match the pattern."""
     found = re.findall(form, text("crates", crate, "specs", f"{name}.antt"), re.MULTILINE | re.DOTALL)
     return [word for part in found for word in re.findall(r'codes "([a-z0-9-]+)"', part)]
 
 
 class Words(Case):
-    """One list of words for all."""
+    """All places have the same words."""
 
     def test_definitions(self):
-        """The definitions by which the program is proved have these words, in this order."""
+        """The definitions against which the program is proved have these words, in this order."""
         self.check("options of Grammar.antt", codes_in("program_args", "Grammar", r"^options =\n(.*?)∷ \[\]"), list(words.OPTIONS))
         self.check("options of bootmem61 in Grammar.antt", codes_in("program_args", "Grammar", r"^options61 = (.*?)$"),
                    [name for name in words.BOOTMEM61.options if name not in words.OPTIONS])
@@ -70,8 +70,8 @@ class Words(Case):
 
     @unittest.skipUnless(os.access(PROGRAM, os.X_OK), "there is no program: it isn't asked for its words")
     def test_program(self):
-        """The program takes each option and each report, and names each input; it takes none
-        with a letter more."""
+        """The program takes each option and each report, and names each input. It takes no word with a
+        further letter."""
         files = {"zp": zero_page(MACHINE), "faulty": b"mem=x"}
         for name, value in words.OPTIONS.items():
             given = [] if not value else [VALUES.get(value, "faulty")]
@@ -88,7 +88,7 @@ class Words(Case):
 
     @unittest.skipUnless(os.access(PROGRAM61, os.X_OK), "there is no ./bootmem61: it isn't asked for its words")
     def test_program61(self):
-        """bootmem61 takes each of its options and reports, names its inputs in its own order, and takes no word with a letter more."""
+        """bootmem61 takes each of its options and reports, and reads its inputs in its own order. It takes no word with a further letter."""
         files = {"zp": zero_page(MACHINE), "faulty": b"mem=x"}
         for name, value in words.BOOTMEM61.options.items():
             given = [] if not value else [VALUES.get(value, "faulty")]
@@ -100,7 +100,7 @@ class Words(Case):
         for name in words.BOOTMEM61.reports:
             self.check(f"bootmem61 --report {name}", run_over(files, ["--report", name, "zp"], PROGRAM61)[::2], (0, ""))
             self.check(f"bootmem61 --report {name}x", run_over(files, ["--report", f"{name}x", "zp"], PROGRAM61), (2, "", "bootmem61: usage\n"))
-        # of several faulty files the first in the order of the inputs is named
+        # of several faulty files the program names the one that it reads first
         named = [name for name in words.BOOTMEM61.inputs if name != "zeropage"]
         for place, name in enumerate(named):
             given = [word for other in reversed(named[place:]) for word in (f"--{other}", "faulty")]
@@ -114,7 +114,7 @@ class Words(Case):
             self.check(f"bootmem {given}", run_over(files, [*given, "zp"]), (2, "", "bootmem: usage\n"))
 
     def test_help(self):
-        """The help of bootmem61 has the lines on options and reports that bootmem's has, and those of its own words."""
+        """The help of bootmem61 has the lines of bootmem's help on options and reports, and lines on its own words."""
         lines, more = ([line for line in text("tools", f"{name}.help").splitlines() if line.startswith("  ")] for name in ("bootmem", "bootmem61"))
         self.check("lines of bootmem.help that bootmem61.help lacks", [line for line in lines[1:] if line not in more], [])
         self.check("lines that only bootmem61.help has", [line.split()[0] for line in more[1:] if line not in lines], ["--claims", "claims"])
@@ -129,7 +129,7 @@ class Words(Case):
             self.check(f"bootmem61.1: the report {name}", f"\n.SS {name}\n" in text("bootmem61.1"), True)
 
     def test_documents(self):
-        """Manual pages and FORMATS.md have the options and the reports, and README no others."""
+        """Manual pages and FORMATS.md have all options and reports. README.md has no others."""
         self.check("options of README.md", set(re.findall(r"(?<= )--[a-z0-9-]+", text("README.md"))) - set(OPTIONS61), set())
         self.check("SYNOPSIS of bootmem.1", options_in(section("bootmem", "SYNOPSIS")), OPTIONS)
         self.check("OPTIONS of bootmem.1", marked_options("bootmem"), OPTIONS)
@@ -149,7 +149,7 @@ class Words(Case):
 
 @unittest.skipUnless(shutil.which("bash"), "there is no bash: what the completions answer isn't tried")
 class Completions(Case):
-    """What bash proposes for the last of some words, in the folder of a machine."""
+    """The completions of bash for the last of some words, in the folder of a machine."""
 
     def completed(self, program, *line):
         """The proposals, sorted."""
@@ -161,7 +161,7 @@ class Completions(Case):
         return sorted(set(done.stdout.decode().split()))
 
     def test_completions(self):
-        """Options, reports, files, and nothing."""
+        """Words for which options, reports, files or nothing are proposed."""
         for line, wanted in ((["--"], OPTIONS), (["--s"], ["--script", "--slit", "--srat"]), (["--report", "m"], ["map", "memory"]),
                              (["--report", ""], REPORTS), (["--report", "map,bu"], ["map,buddyinfo"]),
                              (["--report", "=", "z"], ["zonelists", "zones"]), (["--cmdline", "z"], ["zp.bin"]),
@@ -175,7 +175,7 @@ class Completions(Case):
             self.check(f"bootaudit {' '.join(line)}", self.completed("bootaudit", *line), wanted)
 
     def test_tools(self):
-        """Of each tool the options of its --help; values, files, and after -- the words of bootmem."""
+        """For each tool: the options of its --help, values, files, and after -- the words of bootmem."""
         path = os.path.join(TOP, "tools", "bootmem-tools.bash-completion")
         named = re.search(r"^complete -F _bootmem_tool (.*?)\Z", text_of(path), re.MULTILINE | re.DOTALL).group(1).replace("\\", " ").split()
         tools = re.findall(r"[\w-]+", " ".join(re.findall(r'^tools="(.*)"$', text("tools", "install.sh"), re.MULTILINE)))

@@ -1,4 +1,4 @@
-"""zp-from-log: zero pages, extensions and EFI memory maps of logs and lists, round trips of every machine, and refusals."""
+"""zp-from-log: zero pages, extensions and EFI memory maps from logs and lists, a round trip of every machine, and refusals."""
 
 import os
 import re
@@ -12,20 +12,20 @@ NAMES = {1: "usable", 2: "reserved", 3: "ACPI data", 4: "ACPI NVS", 5: "unusable
 
 
 def log_line(number, table, entry):
-    """The kernel's line for an entry, behind a time stamp."""
+    """The kernel's line for an entry, after a time stamp."""
     base, size, kind = entry
     name = NAMES.get(kind, f"type {kind}")
     return f"[    0.{number:06}] {table}: [mem {base:#018x}-{base + size - 1:#018x}] {name}\n"
 
 
 def ascends(entries):
-    """Whether the entries are ascending, apart and not empty, as a settled table is."""
+    """Whether the entries are like those of a settled table: ascending, without overlaps and not empty."""
     return all(size > 0 for _, size, _ in entries) and all(
         one[0] + one[1] <= two[0] for one, two in zip(entries, entries[1:]))
 
 
 def log_of(name):
-    """What the kernel logs of a machine's zero page and extension, or None where their entries don't ascend."""
+    """The lines that the kernel logs for a machine's zero page and extension, or None if their entries don't ascend."""
     page = bytes_of(example(name, "zp.bin"))
     first = entries_of(page, page[0x1E8], 0x2D0)
     more = []
@@ -65,14 +65,14 @@ EFI_NAMES = {0: "Reserved", 1: "Loader Code", 2: "Loader Data", 3: "Boot Code", 
 
 
 def descriptors_of(path):
-    """Type, address, pages and attributes of each descriptor of a file; its header's two numbers first."""
+    """The two numbers in the header of a file, then type, address, pages and attributes of each descriptor."""
     data = bytes_of(path)
     stride = struct.unpack_from("<I", data)[0]
     return [struct.unpack_from("<II", data)] + [struct.unpack_from("<I4xQ8xQQ", data, place) for place in range(8, len(data), stride)]
 
 
 def efi_line(index, kind, first, pages, attributes):
-    """The line of the kernel for a descriptor whose attributes are of the first four and of RUN."""
+    """The kernel's line for a descriptor with attributes that are only among the first four and RUN."""
     marks = "".join(f"|{name if attributes & bit else '':2}" for name, bit in (("WB", 8), ("WT", 4), ("WC", 2), ("UC", 1)))
     run = "RUN" if attributes >> 63 else ""
     return (f"[    0.000000] efi: mem{index:02}: [{EFI_NAMES[kind]:12}|{run:3}{'|  ' * 8}|   {marks}] "
@@ -80,10 +80,10 @@ def efi_line(index, kind, first, pages, attributes):
 
 
 class Logs(Case):
-    """Inputs made of a kernel's log."""
+    """Inputs made from a kernel's log."""
 
     def test_round_trips(self):
-        """A zero page made of the kernel's lines for a machine gives the map that the kernel logged, and the same owners."""
+        """A zero page made from the kernel's lines for a machine gives the map that the kernel logged, and the same owners."""
         trips = 0
         for name in machines():
             log = log_of(name)
@@ -102,7 +102,7 @@ class Logs(Case):
         self.check(f"zp-from-log: {trips} round trips, at least 30", trips >= 30, True)
 
     def test_logs(self):
-        """The forms of logs and lists, and what is refused."""
+        """Accepted forms of logs and lists, and refused ones."""
         plain = log_of("q35-1g")
         tool("zp-from-log", "--output", "plain", given=plain, folder=self.work)
         page = bytes_of(self.path("plain"))
@@ -134,7 +134,7 @@ class Logs(Case):
               (0, "", True, [1, 0xFFE40000, 0, 0x100000]))
 
     def test_refused(self):
-        """Logs and lists of which no zero page is made: status 1, one line, no file."""
+        """Logs and lists that give no zero page: status 1, one line, no file."""
         plain = log_of("q35-1g")
         headless = "".join(line for line in (log_of("pc-128m") + plain).splitlines(True) if "provided" not in line)
         many = "".join(f"{index * 2}M 1M usable\n" for index in range(129))
@@ -148,7 +148,7 @@ class Logs(Case):
         self.check("zp-from-log, a bad initrd", tool("zp-from-log", "--output", "zp", "--initrd", "1M", given=plain, folder=self.work)[0], 2)
 
     def test_efi(self):
-        """Descriptors of a log, by the names that the kernel prints; those of the machines with UEFI firmware, line by line; what is refused."""
+        """Descriptors in a log, with the names that the kernel prints; those of the machines with UEFI firmware, line by line; refused ones."""
         page = log_of("q35-1g")
         words = ("--output", "zp", "--no-initrd", "--efi", "efi")
         status, out, err = tool("zp-from-log", *words, given=page + EFI_LOG, folder=self.work)
