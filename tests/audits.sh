@@ -45,7 +45,7 @@ says "nothing at all" 0 sound '' --la57 empty empty empty
 says "a missing file" 3 '' 'bootaudit: cannot read missing' map missing blocks
 says "a folder" 3 '' 'bootaudit: cannot read .' map owners .
 says "two names" 2 '' 'bootaudit: usage' map owners
-says "an option behind" 2 '' 'bootaudit: usage' map owners blocks --la57
+says "an option after the names" 2 '' 'bootaudit: usage' map owners blocks --la57
 says "what isn't UTF-8" 2 '' '' map owners "$(printf '\377')"
 truncate -s 536870913 "$work/long" && says "a file of 512 MiB and a byte" 5 '' 'bootaudit: map: too long' long owners blocks
 (cd "$work" && exec "$audit" map owners blocks) >/dev/full 2>"$work/err"

@@ -53,7 +53,7 @@ is "kernel" "$(cat "$work/out/kernel")" "0x1000000,0x33ff000"
 for name in iomem zoneinfo buddyinfo; do
 	is "$name" "$(cat "$work/out/$name")" "$(cat "$work/proc/$name")"
 done
-is "what is told" "$(sed -e "s|$work|WORK|" -e 's/^release: .*/release/' "$work/said")" \
+is "the lines that it prints" "$(sed -e "s|$work|WORK|" -e 's/^release: .*/release/' "$work/said")" \
 	"zp.bin: zero page, 4 bytes
 e820ext.bin: the E820 extension, 22 bytes
 cmdline: command line, 7 bytes
@@ -89,8 +89,8 @@ same "descriptors" "$work/efi/efi.bin" "3000000001000000$(
 	)060000000000000000d0bc9a78563412000000000000000001000000000000000f000000000000800000000000000000$(
 	)0b000000000000000000c0ff000000000000000000000000000400000000000001000000000000800000000000000000"
 says "words with descriptors" "$(cat "$work/said")" "--srat srat.bin --efi efi.bin --kernel"
-says "descriptors that are told" "$(cat "$work/said")" "efi.bin: the EFI descriptors that this kernel shows, 152 bytes"
-says "descriptors that aren't there" "$(cat "$work/err")" "efi.bin: the kernel shows no other descriptors"
+says "the line on EFI descriptors" "$(cat "$work/said")" "efi.bin: the EFI descriptors that this kernel shows, 152 bytes"
+says "the line on missing descriptors" "$(cat "$work/err")" "efi.bin: the kernel shows no other descriptors"
 rm "$map/10/num_pages"
 collect efi
 is "status without a descriptor's pages" "$?" 0
@@ -104,7 +104,7 @@ for flag in 1G:pdpe1gb 2M:pdpe2gb; do
 	printf 'processor\t: 0\nflags\t\t: fpu %s lm\n' "${flag#*:}" >"$work/proc/cpuinfo"
 	collect pages
 	is "pages with ${flag#*:}" "$(cat "$work/pages/pages")" "${flag%:*}"
-	says "pages that are told" "$(cat "$work/said")" "pages: the largest page of the direct map, ${flag%:*}"
+	says "the line on pages" "$(cat "$work/said")" "pages: the largest page of the direct map, ${flag%:*}"
 done
 rm "$work/proc/cpuinfo"
 

@@ -9,7 +9,7 @@ trap 'rm -rf "$work"' EXIT
 passed=0
 failed=0
 
-# built PROGRAM: its path from the root on; a line and status 2 where it can't be run
+# built PROGRAM: prints its absolute path; if it can't be run, prints a line and returns status 2
 built() {
 	path=$(cd "$(dirname "$1")" && pwd)/$(basename "$1")
 	[ -x "$path" ] || {

@@ -45,7 +45,7 @@ if command -v bash >/dev/null 2>&1; then
 		install.sh "$share/bash-completion/completions/bootmem61" 2>/dev/null)" --claims
 	is "the installed completion of a tool" "$(PATH=$root/bin:$PATH bash -c '. "$1"; COMP_WORDS=(bootmem-draw --tit); COMP_CWORD=1
 		_bootmem_tool bootmem-draw; echo "${COMPREPLY[*]}"' install.sh "$share/bash-completion/completions/bootmem-draw" 2>/dev/null)" --title
-	is "the words of bootmem behind it" "$(PATH=$root/bin:$PATH bash -c '. "$1"; COMP_WORDS=(bootmem-draw -- --sr); COMP_CWORD=2
+	is "the words of bootmem after --" "$(PATH=$root/bin:$PATH bash -c '. "$1"; COMP_WORDS=(bootmem-draw -- --sr); COMP_CWORD=2
 		_bootmem_tool bootmem-draw; echo "${COMPREPLY[*]}"' install.sh "$share/bash-completion/completions/bootmem-draw" 2>/dev/null)" --srat
 fi
 is "the first run" "$("$root/bin/bootmem" --report map "$share/bootmem/examples/first/zp.bin")" "$(cat examples/first/map.txt)"
@@ -61,18 +61,18 @@ for program in $programs; do
 		"$program $(sed -n 's/^VERSION := //p' Makefile) (built)"
 done
 for option in $(sed -n 's/^option \([^ ]*\).*/--\1/p' tools/bootmem_tools/words.txt); do
-	ok "bootmem --help tells of $option" grep -q "^ *$option " tools/bootmem.help
+	ok "bootmem --help has $option" grep -q "^ *$option " tools/bootmem.help
 done
 for option in $(sed -n 's/^option\(61\)* \([^ ]*\).*/--\2/p' tools/bootmem_tools/words.txt); do
-	ok "bootmem61 --help tells of $option" grep -q "^ *$option " tools/bootmem61.help
+	ok "bootmem61 --help has $option" grep -q "^ *$option " tools/bootmem61.help
 done
 
-# reports_told PROGRAM: the names of reports that its help has
+# reports_told PROGRAM: prints the names of the reports in its help
 reports_told() {
 	tr '\n' ' ' <"tools/$1.help" | sed 's/.* reports: \(.*\) exit status.*/\1/' | tr -s ' ' | sed 's/ $//'
 }
-is "bootmem --help tells of the reports" "$(reports_told bootmem)" "$(sed -n 's/^report //p' tools/bootmem_tools/words.txt | paste -s -d ' ')"
-is "bootmem61 --help tells of the reports" "$(reports_told bootmem61)" "$(sed -n 's/^report\(61\)* //p' tools/bootmem_tools/words.txt | paste -s -d ' ')"
+is "bootmem --help has the reports" "$(reports_told bootmem)" "$(sed -n 's/^report //p' tools/bootmem_tools/words.txt | paste -s -d ' ')"
+is "bootmem61 --help has the reports" "$(reports_told bootmem61)" "$(sed -n 's/^report\(61\)* //p' tools/bootmem_tools/words.txt | paste -s -d ' ')"
 
 # answers STATUS LINES WORD..: the installed program, bootmem unless another one is set, ends with the status, writes nothing, and says
 # these lines
@@ -154,7 +154,7 @@ for page in $documents; do
 	is "paths of the repository in $(basename "$page")" "$(grep -n "$paths" "$page")" ""
 done
 
-# the library, where it was built: a program finds it by pkg-config
+# the library, if it was built: a program finds it by pkg-config
 if [ -f libbootmem.a ]; then
 	cp -r libbootmem.* include bindings "$work/tree" && rm -rf "$work/tree/bindings/rust/target"
 	ok "make install with the library" installed /opt/it
@@ -185,7 +185,7 @@ for tool in "$root"/bin/bootmem-* "$root"/bin/*-from-log "$root/bin/free-lists" 
 	"$tool" --help >"$work/help" 2>/dev/null || continue
 	there "the pages of tools" "$page"
 	for option in $(grep -o '^  --[a-z0-9-]*' "$work/help"); do
-		ok "$(basename "$page") tells of $option" grep -q "^.fB$(echo "$option" | sed 's/-/\\\\-/g')[\\ ]" "$page"
+		ok "$(basename "$page") has $option" grep -q "^.fB$(echo "$option" | sed 's/-/\\\\-/g')[\\ ]" "$page"
 	done
 	is "$(basename "$page"): wider than 78 columns" "$(awk '/^\.nf/ { on = 1 } /^\.fi/ { on = 0 }
 		on { gsub(/\\-/, "-"); gsub(/\\\((aq|ga)/, "x"); if (length > 71) print }' "$page")" ""
@@ -203,7 +203,7 @@ for page in bootmem.1 bootmem61.1 bootaudit.1 bootmem.5; do
 	is "the version of $page" "$(sed -n 's/^\.TH .*"bootmem \([0-9.]*\)".*/\1/p' "$page")" "$version"
 done
 for target in $(sed -n 's/^\.PHONY: all //p' Makefile); do
-	ok "make help tells of $target" sh -c "'$make' --no-print-directory help | grep -q '^ *make $target'"
+	ok "make help has $target" sh -c "'$make' --no-print-directory help | grep -q '^ *make $target'"
 done
 
 # what uninstall leaves

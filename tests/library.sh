@@ -56,7 +56,7 @@ values() {
 	[ "$report" = map ] || values_as "$folder" "$report" "$@"
 }
 
-# values_as FOLDER NAME WORD..: the same by the profile of Linux 6.1, for the program bootmem61
+# values_as FOLDER NAME WORD..: like values, with the profile of Linux 6.1 and the program bootmem61
 values_as() {
 	folder=$1
 	report=$2

@@ -1,11 +1,11 @@
 #!/bin/sh
-# outside.sh [PROGRAM]: what the program answers where the outside fails: files that can't be read, an output
-# that is full or whose reader leaves. Prints a line for each difference, and finally 'N passed, M failed'.
+# outside.sh [PROGRAM]: checks how the program fails if its surroundings do: files that can't be read, an output
+# that is full or whose reader ends. Prints a line for each difference, and finally 'N passed, M failed'.
 . "$(dirname "$0")/counted.sh"
 program=$(built "${1:-$top/bootmem}") || exit 2
 
-# expect STATUS LINE OUTPUT WORD..: the program's status, its line on standard error, byte for byte, and its
-# output: the example's map where the status is 0, and else nothing
+# expect STATUS LINE OUTPUT WORD..: checks the program's status, its line on standard error, byte for byte, and
+# its output, which is the example's map if the status is 0, and otherwise empty
 expect() {
 	wanted=$1
 	line=$2

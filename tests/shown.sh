@@ -32,8 +32,8 @@ script() {
 	printf '%s\n' '#!/bin/sh' "$@" >"$file" && chmod 755 "$file"
 }
 
-# shows EXAMPLE FOLDER: what its kernel shows of its memory, in the folder: its resources, zones and free blocks. The zones are those
-# that its log tells; the free blocks are the program's.
+# shows EXAMPLE FOLDER: writes into the folder what the kernel of the example shows of its memory: resources, zones and free blocks. The
+# zones are those in its log; the free blocks are the program's.
 shows() {
 	{
 		sed -n 's/^0x0*\([0-9a-f]*\)\.\.0x0*\([0-9a-f]*\) 1 .*/\1-\2 : System RAM/p' "$1/map.txt"
