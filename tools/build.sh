@@ -1,7 +1,7 @@
 #!/bin/sh
-# build.sh CRATE PROGRAM WORD..: proves the crate and those below it, builds its program, and runs it on these words, which must give
-# status 0. Then it writes the program to PROGRAM, and the commit and the kit to PROGRAM.built. Standard error shows the progress. What the prover
-# prints goes to crates/NAME/out/build.log of each crate; if something fails, the end of that log goes to standard error.
+# build.sh CRATE PROGRAM WORD..: proves the crate and those below it, builds its program, and runs it with these words, which must end with status 0.
+# Then it writes the program to PROGRAM, and the commit and the kit (the toolchain's version) to PROGRAM.built. Standard error shows the progress. The
+# prover's output goes to crates/NAME/out/build.log of each crate; if something fails, the end of that log goes to standard error.
 set -eu
 unset CDPATH
 rt=${RT:-rt}

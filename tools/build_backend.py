@@ -1,5 +1,5 @@
-"""Makes the wheel of bootmem_tools for pip, by the standard library alone (PEP 517), so that no
-other package has to be fetched."""
+"""Builds the wheel of bootmem_tools for pip (PEP 517). It uses only the standard library, so pip
+has to download nothing."""
 
 from __future__ import annotations
 
@@ -17,7 +17,7 @@ Settings = dict[str, Any]
 
 
 def project() -> tuple[str, str, str, dict[str, str]]:
-    """Returns version, Python's least version, description and commands of pyproject.toml."""
+    """Returns version, lowest version of Python, description and commands of pyproject.toml."""
     with open(os.path.join(HERE, "pyproject.toml"), encoding="utf-8") as file:
         text = file.read()
     version, python, what = (re.search(rf'^{key} = "(.*)"$', text, re.MULTILINE)
@@ -66,7 +66,7 @@ def build_wheel(wheel_directory: str, config_settings: Settings | None = None,
 
 
 def digest(data: bytes) -> str:
-    """Returns the checksum of a file as RECORD has it."""
+    """Returns the checksum of a file in the form that RECORD has."""
     return base64.urlsafe_b64encode(hashlib.sha256(data).digest()).rstrip(b"=").decode()
 
 

@@ -1,6 +1,6 @@
 #!/bin/sh
-# built.sh: prints the commit of crates/ and the kit, for what was just built from them, as
-# "commit COMMIT; kit KIT". COMMIT ends with ", changed" if a file of crates/ isn't as committed.
+# built.sh: prints "commit COMMIT; kit KIT" for a program that was just built: the newest commit and
+# the toolchain's version. COMMIT ends with ", changed" if a file of crates/ differs from it.
 set -eu
 unset CDPATH
 rt=${RT:-rt}

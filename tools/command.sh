@@ -1,18 +1,18 @@
 #!/bin/sh
-# @PROGRAM@: hands its words to the proved program and ends with its status. It answers --help, -h and --version by itself, and after a
-# refusal (status 2), a file that can't be read (3) or a table whose checksum is wrong (5) it adds a line to the program's own that says
+# @PROGRAM@: runs the proved program with its own words and ends with the program's status. It answers --help, -h and --version by itself. If
+# the program refused its words (status 2), couldn't read a file (3) or found a wrong checksum in a table (5), the script adds a line that says
 # why. Nothing here is proved.
-# What runs on every call comes first and starts no process besides the program's.
+# The part that runs on every call comes first and starts no process except the program.
 program=${0%/*}/../libexec/bootmem/@PROGRAM@
 [ -x "$program" ] || program="@PREFIX@/libexec/bootmem/@PROGRAM@"
 case ${1-} in
 --help | -h | --version) ;;
 *)
-	# pages of 2 MiB, if the system gives them on advice: the system hands out the 194 MB of a long report sooner
+	# Ask for pages of 2 MiB, if the system gives them on advice: it then provides the 194 MB of a long report sooner.
 	GLIBC_TUNABLES=glibc.malloc.hugetlb=1${GLIBC_TUNABLES:+:$GLIBC_TUNABLES}
 	export GLIBC_TUNABLES
-	# A signal that reaches this script alone ends the program, too: so the program runs in the background. There a shell hands out
-	# /dev/null as standard input, so the script's own comes as 9.
+	# A signal to this script must end the program, too, so the program runs in the background. A shell gives a background process
+	# /dev/null as standard input, so the script's own standard input is passed as descriptor 9.
 	child='' signal=''
 	trap 'signal=HUP; kill "$child" 2>/dev/null' HUP
 	trap 'signal=INT; kill "$child" 2>/dev/null' INT

@@ -1,7 +1,7 @@
 #!/bin/sh
-# deb.sh VERSION MAKE: makes bootmem_VERSION_ARCHITECTURE.deb of what 'make install PREFIX=/usr' installs, the programs stripped; and of the library,
-# where libbootmem.a is there, bootmem-dev_VERSION_ARCHITECTURE.deb.
-# MAINTAINER names who is told as the package's maintainer, in place of the author of the newest commit.
+# deb.sh VERSION MAKE: makes bootmem_VERSION_ARCHITECTURE.deb of what 'make install PREFIX=/usr' installs, with the programs stripped. If libbootmem.a
+# exists, it also makes bootmem-dev_VERSION_ARCHITECTURE.deb of the library.
+# The variable MAINTAINER is the package's maintainer; by default it is the author of the newest commit.
 set -eu
 unset CDPATH
 cd "$(dirname "$0")/.."
@@ -14,7 +14,7 @@ dev=$(mktemp -d)
 trap 'rm -rf "$root" "$dev"' EXIT
 chmod 755 "$root" "$dev"
 
-# package ROOT NAME DEPENDS: makes the package of what lies under ROOT; standard input is its description
+# package ROOT NAME DEPENDS: makes the package of the files under ROOT; standard input is its description
 package() {
 	install -d "$1/DEBIAN"
 	(cd "$1" && find usr -type f -print0 | sort -z | xargs -0 md5sum) >"$1/DEBIAN/md5sums"
@@ -33,7 +33,7 @@ for program in bootmem bootmem61 bootaudit; do
 	strip --strip-unneeded --remove-section=.comment --remove-section=.note "$root/usr/libexec/bootmem/$program"
 done
 doc=$root/usr/share/doc/bootmem
-# a Debian change log, and the change log that a user reads
+# the change log that Debian requires; it names the one for users, CHANGELOG.md
 {
 	printf 'bootmem (%s) unstable; urgency=medium\n\n  * See CHANGELOG.md.\n\n' "$version"
 	printf ' -- %s  %s\n' "$maintainer" "$(date -R -u -d "$(sed -n "s/^## $version, //p" CHANGELOG.md)")"
@@ -41,7 +41,7 @@ doc=$root/usr/share/doc/bootmem
 gzip -9n "$doc/changelog" "$root"/usr/share/man/man[15]/*
 echo "Licence: not chosen yet by the owner." >"$doc/copyright"
 
-# the packages that the program's libraries come from, the C library of the version that it asks for at least, and what the tools need
+# dependencies: the packages of the program's libraries, the C library in the lowest version that will do, and python3 for the tools
 library=$(objdump -T "$root/usr/libexec/bootmem/bootmem" | grep -o 'GLIBC_[0-9.]*' | sed 's/GLIBC_//' | sort -V | tail -n 1)
 depends=$(
 	ldd "$root/usr/libexec/bootmem/bootmem" | sed -n 's/.*=> \(\/[^ ]*\) .*/\1/p' |
@@ -50,7 +50,7 @@ depends=$(
 		done | sed -e 's/:.*//' -e "s/^libc6\$/libc6 (>= $library)/" | sort -u
 	! grep -q '^#!.*python3' "$root"/usr/bin/* || echo python3
 )
-# what a program needs that calls the library goes into a package of its own
+# the library and what a program needs to call it go into a package of their own
 if [ -f "$root/usr/lib/libbootmem.a" ]; then
 	mkdir -p "$dev/usr/lib" "$dev/usr/share/bootmem" "$dev/usr/share/doc/bootmem-dev"
 	mv "$root"/usr/lib/libbootmem.* "$root/usr/lib/pkgconfig" "$dev/usr/lib"

@@ -1,7 +1,7 @@
 #!/bin/sh
 # dist.sh VERSION MAKE: makes bootmem-VERSION-COMMIT-ARCHITECTURE.tar.gz for machines without the
-# toolchain. COMMIT ends with -changed if some file isn't as committed. The archive has one folder.
-# In it lies what 'make install' puts under a PREFIX, and besides
+# toolchain. COMMIT ends with -changed if some file differs from it. The archive has one folder. It
+# contains what 'make install' puts under a PREFIX, and also
 #
 #   install.sh  copies all of it under a PREFIX (tools/unpacked.sh)
 #   README      says how to run and install it
@@ -27,7 +27,7 @@ work=$(mktemp -d)
 trap 'rm -rf "$work"' EXIT
 top=$work/$name
 
-# install.sh of the archive puts the folder of the installation in place of @PREFIX@
+# the archive's install.sh replaces @PREFIX@ with the folder of the installation
 "$make" --no-print-directory install DESTDIR="$work/" PREFIX=@PREFIX@ MANDIR=@PREFIX@/share/man
 mv "$work/@PREFIX@" "$top"
 [ -f "$top/lib/libbootmem.a" ] ||

@@ -1,17 +1,18 @@
 #!/bin/sh
-# install.sh install|tools|uninstall DESTDIR PREFIX MANDIR: puts the built program, the tools, the manual pages, the documents and the
-# examples under DESTDIR, or the tools alone, or removes what it put there. 'make install' and 'make uninstall' call it.
+# install.sh install|tools|uninstall DESTDIR PREFIX MANDIR: 'install' puts the built programs, the tools, the manual pages, the documents and
+# the examples under DESTDIR; 'tools' puts only the tools there; 'uninstall' removes all of it. 'make install' and 'make uninstall' call it.
 #
-#   PREFIX/bin                bootmem, bootmem61 and bootaudit, short scripts over the programs (tools/command.sh), the tools that are there, and tools/collect.sh as bootmem-collect
-#   PREFIX/libexec/bootmem    the proved programs, as they were built, and explain, which the scripts start after a refusal
-#   MANDIR/man1, MANDIR/man5  the manual pages; those of the tools are made of their --help, where they run
-#   PREFIX/share/doc/bootmem  the documents, and BUILD: the commit and the kit of programs and library
-#   PREFIX/lib/python3*/*-packages/bootmem_tools  the Python package of the tools: in the folder there that python3 looks into, if it
-#                             looks into one, else in lib/python3/dist-packages, which the installed tools name
-#   PREFIX/share/bootmem      the machines of examples/, words.txt for the completions, and what --help of the programs prints
-#   PREFIX/share/bash-completion/completions  a file for bootmem and bootmem61, one for bootaudit, and one for the tools, under the name of each
-#   PREFIX/lib, PREFIX/include  where libbootmem.a is there: the library, its header and lib/pkgconfig/bootmem.pc, and in
-#                             PREFIX/share/bootmem/bindings what calls it; VERSION is that of the library
+#   PREFIX/bin                bootmem, bootmem61 and bootaudit, which are short scripts that run the programs (tools/command.sh); the
+#                             tools; and tools/collect.sh as bootmem-collect
+#   PREFIX/libexec/bootmem    the proved programs as they were built, and explain, which the scripts run after a refusal
+#   MANDIR/man1, MANDIR/man5  the manual pages; a tool's page is made from its --help, if the tool runs here
+#   PREFIX/share/doc/bootmem  the documents, and BUILD: the commit and the kit (the toolchain's version) of programs and library
+#   PREFIX/lib/python3*/*-packages/bootmem_tools  the tools' Python package: in such a folder on python3's path, or, if there is none, in
+#                             lib/python3/dist-packages, whose path the installed tools add
+#   PREFIX/share/bootmem      the machines of examples/, words.txt for the completions, and the help texts of the programs
+#   PREFIX/share/bash-completion/completions  a file for bootmem and bootmem61, one for bootaudit, and one for the tools, by each one's name
+#   PREFIX/lib, PREFIX/include  if libbootmem.a exists: the library, its header and lib/pkgconfig/bootmem.pc, and in
+#                             PREFIX/share/bootmem/bindings the bindings to it; the variable VERSION is the library's version
 set -eu
 unset CDPATH
 cd "$(dirname "$0")/.."
@@ -23,7 +24,7 @@ include=$2$3/include
 share=$2$3/share
 man=$2$4
 all_programs="bootmem bootmem61 bootaudit"
-# those that are installed
+# the programs to install
 chosen=${PROGRAMS:-$all_programs}
 tools="bootmem-draw bootmem-where bootmem-diff bootmem-live zp-from-log"
 tools="$tools bootmem-line bootmem-crash bootmem-linux"
@@ -44,7 +45,7 @@ uninstall() {
 	rm -rf "$libexec" "$share/doc/bootmem" "$share/bootmem" "$lib"/python3*/*-packages/bootmem_tools
 }
 
-# packages PREFIX: the folder for Python packages under PREFIX/lib, seen from PREFIX
+# packages PREFIX: prints the folder for Python packages under PREFIX/lib, relative to PREFIX
 packages() {
 	found=$(python3 -I -c 'import sys
 folder = sys.argv[1] + "/lib/"
@@ -53,18 +54,18 @@ print(next((path for path in sys.path if path.startswith(folder) and path.endswi
 	echo "${found#"$1"/}"
 }
 
-# put TOOL PATH PLACE: a tool that finds its package at PLACE, seen from its folder
+# put TOOL PATH PLACE: installs TOOL as PATH; it finds its package at PLACE, relative to its own folder
 put() {
 	sed "s|^sys.dont_write_bytecode = True\$|&\nsys.path.insert(0, sys.path[0] + \"$3\")|" "$1" >"$2"
 	chmod 755 "$2"
 }
 
-# built NAME: the commit and the kit that a program, or the library, was built with
+# built NAME: prints the commit and the kit that a program, or the library, was built with
 built() {
 	cat "$1.built" 2>/dev/null || echo "commit and kit unknown"
 }
 
-# build_file: the version, and the commit and the kit of all that was built
+# build_file: prints the version, and the commit and the kit of each program and of the library
 build_file() {
 	echo "bootmem $VERSION"
 	for name in $chosen; do
@@ -73,7 +74,7 @@ build_file() {
 	[ ! -f libbootmem.a ] || echo "libbootmem: $(built libbootmem)"
 }
 
-# programs PREFIX: the proved programs as they are, the scripts that hand them their words, and BUILD
+# programs PREFIX: installs the proved programs unchanged, the scripts that run them, and BUILD
 programs() {
 	install -d "$libexec"
 	for program in $chosen; do
@@ -88,7 +89,7 @@ programs() {
 	chmod 644 "$share/doc/bootmem/BUILD"
 }
 
-# tools PREFIX: the tools, and the package that they are made of
+# tools PREFIX: installs the tools and their Python package
 tools() {
 	packages=$(packages "$1")
 	install -d "$bin" "$bin/../$packages/bootmem_tools"
@@ -99,7 +100,7 @@ tools() {
 	install -m 644 tools/bootmem_tools/*.* "$bin/../$packages/bootmem_tools"
 }
 
-# library: what a program needs that calls the library
+# library PREFIX: installs the library and what a program needs to call it
 library() {
 	install -d "$lib/pkgconfig" "$include"
 	install -m 644 libbootmem.a "$lib"
@@ -116,15 +117,16 @@ library() {
 	done
 }
 
-# examples FOLDER: the files of the machines of examples/, and nothing else that lies there
+# examples FOLDER: copies the files of the machines of examples/ to FOLDER, without any other files there
 examples() {
 	(cd examples && find . -type f \( -name '*.bin' -o -name '*.txt' -o -name cmdline -o -name words -o -name script -o -name log -o -name linux \
 		-o -name README.md \) -print | tar -c -f - -T -) | (cd "$1" && tar -x --no-same-owner -f -)
 	chmod -R u=rwX,go=rX "$1"
 }
 
-# document FILE TO PREFIX: installs a document. A page for users names what is installed: the other
-# documents lie beside it, programs and tools are on the PATH, the examples are below PREFIX.
+# document FILE TO PREFIX: installs a document. In a page for users, paths of the repository become those
+# of the installation: other documents are in the same folder, programs and tools on the PATH, and the
+# examples below PREFIX.
 document() {
 	words=
 	case $1 in
@@ -133,7 +135,7 @@ document() {
 		for tool in $tools; do
 			words="$words; s|\(\.\./\)*tools/$tool|$tool|g"
 		done
-		# over ssh the script needs its path
+		# a script that is run over ssh needs its full path
 		collect=$3/bin/bootmem-collect
 		words="$words; s|-q tools/collect\.sh|-q $collect|; s|'tools/collect\.sh|'$collect|"
 		words="$words; s|; installed as .bootmem-collect.||"
@@ -155,14 +157,14 @@ install_all() {
 	completions=$share/bash-completion/completions
 	install -d "$completions"
 	for program in $chosen; do
-		# one file has the words of bootmem and of bootmem61
+		# bootmem and bootmem61 share a file
 		install -m 644 "tools/${program%61}.bash-completion" "$completions/$program"
 	done
 	install -m 644 tools/bootmem-tools.bash-completion "$completions/bootmem-tools"
 	for tool in bootmem-collect $tools; do
 		ln -sf bootmem-tools "$completions/$tool"
 	done
-	# the completions read the words there
+	# the completions read this file
 	install -m 644 tools/bootmem_tools/words.txt "$share/bootmem/words.txt"
 	for program in $all_programs; do
 		install -m 644 "$program.1" "$man/man1"

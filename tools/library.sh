@@ -1,9 +1,9 @@
 #!/bin/sh
 # library.sh VERSION [gate]: proves bootmem_c and the crates below it, and makes libbootmem.a and libbootmem.so.VERSION at the top. The
-# archive has one object: the crate's, with the kit's three lines over malloc, realloc and free. Of its names the exports alone are seen.
-# libbootmem.built has the commit and the kit.
-# With "gate" the crates below are those that `rt ci` proved and left in this clone, so that bootmem_c alone is proved once more. If none of
-# them is there, as with a kit that leaves none, the status is 3; if some are and another isn't, that is a fault, and the status is 1.
+# archive has one object: the crate's code and the toolchain's calls of malloc, realloc and free. Only the exported names are visible.
+# libbootmem.built has the commit and the kit (the toolchain's version).
+# With "gate" it uses the libraries that `rt ci` proved and left in this clone, so that only bootmem_c is proved again. If none of
+# them is there, because the kit leaves none, the status is 3. If only some are there, that is a fault, and the status is 1.
 set -eu
 unset CDPATH
 rt=${RT:-rt}
@@ -18,7 +18,7 @@ exports="bootmem_run bootmem_map bootmem_crash bootmem_memory bootmem_nodes boot
 
 kit=$(dirname "$("$rt" doc)")
 
-# place NAME: where the library of this name is, which is the gate's or, if no crate here has the name, the kit's
+# place NAME: prints the path of this library: that of the gate, or of the kit if no crate here has the name
 place() {
 	if [ -d "$top/crates/$1" ]; then
 		echo "$top/crates/$1/out/rlib/$1.rlib"
@@ -27,7 +27,7 @@ place() {
 	fi
 }
 
-# over_gate NAME..: the compiler's own call over the libraries of these names and all others of the gate, as `rt lib` makes it over its own
+# over_gate NAME..: runs the compiler as `rt lib` does, but over the gate's libraries; NAME.. are those that bootmem_c uses itself
 over_gate() {
 	cd "$crate"
 	for name in "$@"; do

@@ -1,6 +1,6 @@
 #!/bin/sh
-# manual.sh TOOL: prints the manual page of a tool that lies at that path, made of its --help. What the tool does in a line is what
-# the table of docs/TOOLS.md says of it, and version and date are those of bootmem.1. It needs what the tool needs to run.
+# manual.sh TOOL: prints the manual page of the tool at that path, made from its --help. The line that sums up the tool comes from
+# the table of docs/TOOLS.md, and version and date from bootmem.1. The tool must be able to run here.
 set -eu
 unset CDPATH
 top=$(cd "$(dirname "$0")/.." && pwd)
@@ -35,7 +35,7 @@ printf '%s\n' "$help" | awk '
 	/^examples?:$/ { section("EXAMPLES"); keep(); next }
 	/^This tool isn.t proved/ { section("NOTES") }
 	/^$/ { plain(); gap = 1; next }
-	# two columns: what it is, and two blanks behind it what is said of it
+	# two columns: a term, two or more blanks, and its description
 	/^  [^ ]/ && !kept && match(substr($0, 3), /[^ ]   *[^ ]/) {
 		print ".TP"; print "\\fB" text(substr($0, 3, RSTART)) "\\fR"; print text(substr($0, 3 + RSTART + RLENGTH - 2)); gap = 0; list = 1; next
 	}

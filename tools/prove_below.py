@@ -1,10 +1,10 @@
 #!/usr/bin/env python3
-"""prove_below.py CRATE: proves the crates below CRATE, side by side where none of them rests on another.
+"""prove_below.py CRATE: proves the crates below CRATE, in parallel where none of them depends on another.
 
-As many run at once as there are processors, and as memory allows (3 GB each). A crate is left out if neither its files nor the crates below it changed
-since it was proved here. Standard error shows how many crates are proved, of how many, and the seconds so far: on a terminal in one line that is
-rewritten, elsewhere in a line per crate. What the prover prints goes to crates/NAME/out/build.log. RT names the toolchain's command.
-The status is 0 if all are proved, else 1, after the end of the log of the crate that failed.
+Up to one crate per processor runs at once, as far as memory allows (3 GB each). A crate is skipped if neither its files nor the crates below it changed
+since it was proved here. Standard error shows how many of the crates are proved and the seconds so far: on a terminal in one line that is rewritten,
+otherwise in one line per crate. The prover's output goes to crates/NAME/out/build.log. The variable RT names the toolchain's command.
+The status is 0 if all are proved. Otherwise it is 1, and the end of the failed crate's log is printed.
 """
 
 from __future__ import annotations
@@ -32,7 +32,7 @@ def read_crates() -> dict[str, list[str]]:
 
 
 def crates_below(crate: str, uses: dict[str, list[str]]) -> list[str]:
-    """The crates that this one stands on, lowest first."""
+    """The crates that this one depends on, lowest first."""
     order: list[str] = []
 
     def visit(name: str) -> None:
@@ -55,7 +55,7 @@ def source_files(crate: str) -> list[str]:
 
 
 def lengths_of_chains(order: list[str], uses: dict[str, list[str]]) -> dict[str, int]:
-    """For each crate the bytes of sources on the longest chain of crates that begins with it and goes up."""
+    """For each crate, the bytes of sources on the longest chain of crates from it up to the top."""
     sizes = {name: sum(os.path.getsize(path) for path in source_files(name)) for name in order}
     chains: dict[str, int] = {}
     for name in reversed(order):
@@ -77,7 +77,7 @@ def checksum(crate: str, uses: dict[str, list[str]], sums: dict[str, str]) -> st
 
 
 def is_proved(crate: str, total: str) -> bool:
-    """Whether the crate's library is there and was proved from files with this checksum."""
+    """Whether the crate's library exists and was proved from files with this checksum."""
     out = f"{TOP}/crates/{crate}/out"
     if not os.path.isdir(f"{out}/rlib/{crate}.rlib") or not os.path.exists(f"{out}/proved"):
         return False
@@ -86,7 +86,7 @@ def is_proved(crate: str, total: str) -> bool:
 
 
 def processes_at_once() -> int:
-    """How many crates can be proved at once, by processors and available memory."""
+    """How many crates can be proved at once with the processors and the available memory."""
     available = 0
     try:
         with open("/proc/meminfo", encoding="utf-8") as file:
@@ -124,14 +124,14 @@ class Progress:
 
 
 def start(crate: str) -> subprocess.Popen[bytes]:
-    """Begins to prove the crate and to make its library."""
+    """Starts the process that proves the crate and makes its library."""
     os.makedirs(f"{TOP}/crates/{crate}/out", exist_ok=True)
     with open(f"{TOP}/crates/{crate}/out/build.log", "wb") as log:
         return subprocess.Popen([RT, "lib"], cwd=f"{TOP}/crates/{crate}", stdin=subprocess.DEVNULL, stdout=log, stderr=log)
 
 
 def fail(crate: str, running: dict[str, subprocess.Popen[bytes]]) -> int:
-    """Ends what still runs, and shows why this crate isn't proved."""
+    """Ends the processes that still run and prints the end of this crate's log. Returns the status 1."""
     for process in running.values():
         process.terminate()
     path = f"{TOP}/crates/{crate}/out/build.log"
@@ -142,7 +142,7 @@ def fail(crate: str, running: dict[str, subprocess.Popen[bytes]]) -> int:
 
 
 def prove(crate: str, uses: dict[str, list[str]]) -> int:
-    """Proves what isn't proved yet below the crate."""
+    """Proves the crates below this one that aren't proved yet. Returns the status."""
     order = crates_below(crate, uses)
     sums = {"": subprocess.run([RT, "version"], capture_output=True, text=True, check=True).stdout}
     for name in order:

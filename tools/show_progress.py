@@ -1,9 +1,9 @@
 #!/usr/bin/env python3
-"""show_progress.py LOG COMMAND..: runs the gate's command, writes all that it prints to LOG, and shows how far it is.
+"""show_progress.py LOG COMMAND..: runs the gate's COMMAND (`rt ci`), writes all its output to LOG, and shows its progress.
 
-Of what `rt ci` prints, one line per crate stays: how many crates are proved, of how many, and the seconds so far; on a terminal it is one line that is
-rewritten. What comes after the proofs (tests, wrong bodies, the repository's own checks) is printed as it is. After a failure the end of the
-prover's output is printed too. The status is the command's.
+The output of the proofs is replaced by one line per crate: how many of the crates are proved, and the seconds so far. On a terminal this is one line that
+is rewritten. The output after the proofs (tests, wrong bodies, the repository's own checks) is printed unchanged. If the command fails, the last 40 lines
+of its output are printed too. The status is the command's.
 """
 
 from __future__ import annotations
@@ -17,7 +17,7 @@ from collections import deque
 
 TOP = os.path.dirname(os.path.dirname(os.path.abspath(__file__)))
 PROVED = re.compile(r"rt: (\w+) proved$")
-# the lines of a proof: each function, and what the prover loads and counts
+# lines that the prover prints for each function, and on what it loads and counts
 OF_A_PROOF = re.compile(r"(fn|trait|struct|enum|impl|logic|statements|crate|empty contracts|logic=)\b|note: ")
 
 
@@ -28,7 +28,7 @@ def count_crates() -> int:
 
 
 class Progress:
-    """What is shown of a run."""
+    """The progress of a run as it is shown."""
 
     def __init__(self) -> None:
         self.crates, self.done, self.began = count_crates(), 0, time.monotonic()
@@ -36,7 +36,7 @@ class Progress:
         self.last: deque[str] = deque(maxlen=40)
 
     def take(self, line: str) -> None:
-        """Shows a line of the command's output, or what it means for the progress."""
+        """Prints a line of the command's output, or the progress in place of a line of a proof."""
         proved = PROVED.match(line)
         if proved and self.done < self.crates:
             self.done += 1

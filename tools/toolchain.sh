@@ -1,5 +1,5 @@
 #!/bin/sh
-# toolchain.sh: says what is missing where there is no toolchain. The kits that prove this program stand in `kits` beside it.
+# toolchain.sh: fails with a message if there is no toolchain. The file `kits` next to it names the versions (kits) that prove this program.
 rt=${RT:-rt}
 kits=$(tr '\n' ' ' <"$(dirname "$0")/kits")
 command -v "$rt" >/dev/null 2>&1 || {

@@ -1,14 +1,14 @@
 #!/bin/sh
-# try.sh CRATE WORD..: builds the crate's program without proving it, and runs it on these words.
+# try.sh CRATE WORD..: builds the crate's program without proving it, and runs it with these words.
 # Standard output and standard error are the program's, after a line that says that the build is unproved. While it builds, standard error shows
-# the seconds so far: on a terminal in one line that is rewritten, elsewhere in a line every 15 seconds. A word that names a file is passed as a
+# the seconds so far: on a terminal in one line that is rewritten, otherwise in a line every 15 seconds. If a word names a file, the program gets a
 # copy with a plain name, so an error may name that copy.
 set -eu
 unset CDPATH
 rt=${RT:-rt}
 top=$(cd "$(dirname "$0")/.." && pwd)
 
-# show_time PID: shows how long the process has been building, until it ends
+# show_time PID: shows the seconds so far until the process ends
 show_time() {
 	seconds=0
 	while kill -0 "$1" 2>/dev/null; do
@@ -63,6 +63,6 @@ show_time "$building"
 status=0
 wait "$building" || status=$?
 cat "$copies/out"
-# what the toolchain says of its own run is left out
+# leaves out the toolchain's lines about its own run
 grep -v -e '^checked: ' -e '^run=' "$copies/said" >&2 || :
 exit "$status"

@@ -1,6 +1,6 @@
 #!/bin/sh
-# install.sh [--uninstall] [PREFIX]: installs what lies beside this script under PREFIX, or removes
-# it from there. PREFIX is /usr/local by default; DESTDIR, if set, goes before it.
+# install.sh [--uninstall] [PREFIX]: installs the files next to this script under PREFIX, or removes
+# them from there. PREFIX is /usr/local by default; if DESTDIR is set, it is put before PREFIX.
 set -eu
 unset CDPATH
 umask 022
@@ -32,14 +32,14 @@ esac
 root=${DESTDIR-}$prefix
 cd "$(dirname "$0")"
 
-# found TEST..: the paths below the folders here that pass these tests of find
+# found TEST..: prints the paths below the folders here that pass these tests of find
 found() {
 	for folder in */; do
 		find "${folder%/}" "$@"
 	done
 }
 
-# remove: removes what was installed, and the folders that are bootmem's alone
+# remove: removes what was installed, and the folders with bootmem in their path
 remove() {
 	found ! -type d | (cd "$root" && xargs rm -f)
 	found -type d | grep bootmem | sort -r | (cd "$root" && xargs rmdir 2>/dev/null) || :
@@ -61,7 +61,7 @@ remove
 for folder in */; do
 	cp -R -P "${folder%/}" "$root"
 done
-# what names the folder of the installation
+# puts PREFIX into the files that have @PREFIX@ in its place
 escaped=$(printf '%s\n' "$prefix" | sed 's/[&|\\]/\\&/g')
 found -type f | xargs grep -l @PREFIX@ | while read -r file; do
 	sed "s|@PREFIX@|$escaped|g" "$file" >"$root/$file"

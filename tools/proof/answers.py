@@ -1,16 +1,20 @@
 #!/usr/bin/env python3
-"""answers.py [--over GATE] CRATE..: takes away the answers that no proof needs, and what is cited by nothing then.
+"""answers.py [--over GATE] CRATE..: removes the answers that no proof needs, and the lemmas that nothing cites without them.
 
-For each CRATE in turn, in this checkout: all answers (`pub GOAL : goal.GOAL` in the files Answers.antt) are taken away, and `rt check --margin`, which
-searches with half of the usual limits, tells which goals are open then. Their answers come back, with those that these name, until no goal is open
-that isn't with all of them. So do the answers of a function that takes over 20 seconds longer in a check from nothing. Definitions in Answers.antt,
-lemmas in proofs/*.antt and whole files that something in the repository cited before, and nothing does now, go with their lines in Lib.antt;
-Invariants.antt stays. Then `rt tidy` drops imports, and the crate is checked from nothing.
+For each CRATE in turn, it changes the files of this checkout in these steps:
 
-It prints the lines of answers and of all files of proofs/, and the seconds of a processor that a check from nothing takes, before and after. A crate
-that isn't proved as it stands, or at the end, is left as it was, and the status is 1. By hand, where nothing is changed since the last commit; some six
-checks of each crate, two of them from nothing. With --over it checks by `prove.py`, over the libraries that `rt ci` proved in the checkout GATE, in place
-of proving here what lies below.
+- It removes all answers (`pub GOAL : goal.GOAL` in the files Answers.antt). `rt check --margin`, which searches with half of the usual limits, shows
+  which goals are open without them.
+- It puts the answers of these goals back, and the answers that those name. It repeats this until the only open goals are those that were open with all
+  answers in place. If a function takes over 20 seconds longer in a check from scratch, its answers are put back too.
+- It removes what something in the repository cited before and nothing cites now: definitions in Answers.antt, lemmas in proofs/*.antt, and whole files
+  with their lines in Lib.antt. Invariants.antt stays.
+- `rt tidy` drops unused imports, and the crate is checked from scratch.
+
+It prints, before and after: the lines of answers, the lines of all files of proofs/, and the processor seconds of a check from scratch. A crate that isn't
+proved at the start or at the end is left as it was, and the status is 1. Run it by hand in a checkout without uncommitted changes. It makes some six
+checks of each crate, two of them from scratch. With --over GATE it checks with `prove.py`, over the libraries that `rt ci` proved in the checkout GATE,
+and proves nothing below the crate here.
 """
 
 import glob
@@ -29,11 +33,11 @@ CHECK = ("check", "--jobs", "1")
 NAME = re.compile(r"(?:(?:abbrev|unfoldable|pub) )*(?:ruleset |record |data )?([^\s:]+)(?= |$)")
 ANSWER = re.compile(r"pub (\S+) : goal\.")
 HEAD = re.compile(r"use |mod |pub mod |module |infix|--|\s")
-# what `rt check` says: that it is done with a function, and of a function with open goals where they are, which, and how that ended
+# lines of `rt check`: a function is done; a goal is open, with its place and name; the search for a function's goals ended
 CHECKED = re.compile(r"checked (\S+), \d+ of \d+")
 GOAL = re.compile(r"\(`([^`\s]+)`\)")
 TRIED = re.compile(r"`search` did not prove ((?:`[^`]+`(?:, )?)+)")
-# a goal that it tells at the body, apart from what it says of the function
+# an error at a place in src/ that names an open goal
 AT_BODY = re.compile(r"^src/\S+: error: `([^`]+)`: `search`: no proof", re.M)
 ENDED = re.compile(r"(?:fn|impl|struct|enum) (\S+): ")
 
@@ -59,18 +63,18 @@ def head_of(part):
 
 
 def name_of(part):
-    """What a part defines, if it does."""
+    """The name that a part defines, or None for an import or a comment."""
     return None if HEAD.match(head_of(part)) else NAME.match(head_of(part)).group(1)
 
 
 def answer_of(part):
-    """The goal that a part answers, if it does."""
+    """The goal that a part answers, or None if it is no answer."""
     match = ANSWER.match(head_of(part))
     return match.group(1) if match else None
 
 
 def faults_in(said):
-    """The first lines of what a check said that tell why it isn't proved, or the last ones where none does."""
+    """The first ten lines of a check's output that say why a crate isn't proved, or its last ten lines if no line says so."""
     lines = said.strip().split("\n")
     told = [line for line in lines if ": error: " in line or ": not proved" in line or "not proved yet" in line]
     return "\n".join(told[:10] or lines[-10:])
@@ -87,7 +91,7 @@ def repository():
 
 
 class Crate:
-    """A crate: its files of proofs/ as they stood, the parts of its Answers.antt, and which answers are kept."""
+    """A crate: the text of its files of proofs/ at the start, the parts of its files Answers.antt, and the answers that are kept."""
 
     def __init__(self, name, gate):
         self.name = name
@@ -112,15 +116,15 @@ class Crate:
             write(path, text)
 
     def command(self, words):
-        """`rt` with these words, or what does the same over the libraries of the gate."""
+        """`rt` with these words, or with --over the call of prove.py that does the same over the gate's libraries."""
         if not self.gate:
             return ["rt", *words]
         flags = ["--fix-imports"] if words[0] == "tidy" else [word for word in words[1:] if word not in CHECK]
         return [f"{HERE}/prove.py", self.gate, self.name, "--progress", *flags]
 
     def run(self, *words):
-        """The status of `rt` in the crate's folder, what it says, the seconds until it was done with each function after the one before, and those of a
-        processor in all."""
+        """Runs `rt` in the crate's folder. Returns its status, its output, the seconds that each function took, by its file of answers, and the processor
+        seconds of the whole run."""
         last, began = time.time(), resource.getrusage(resource.RUSAGE_CHILDREN)
         said, seconds = [], {}
         with subprocess.Popen(self.command(words), cwd=self.folder, stdin=subprocess.DEVNULL, stdout=subprocess.PIPE, stderr=subprocess.STDOUT, text=True,
@@ -135,7 +139,8 @@ class Crate:
         return ran.returncode, "".join(said), seconds, ended.ru_utime + ended.ru_stime - began.ru_utime - began.ru_stime
 
     def run_anew(self):
-        """As `run`, of a check from nothing: a line that says nothing keeps it from another checkout's work on the same text."""
+        """Runs a check from scratch, as `run`. A comment with the time is added to lib.rt meanwhile, so that no other checkout's work on the same text is
+        reused."""
         if self.gate:
             return self.run(*CHECK, "--anew")
         root = f"{self.folder}/src/lib.rt"
@@ -155,7 +160,7 @@ class Crate:
         return os.path.relpath(path, f"{self.folder}/proofs")[: -len(".antt")].split("/")
 
     def open_goals(self, said):
-        """The goals that a check tells as open, by the file that their answers would stand in."""
+        """The goals that a check reports as open, by the file that their answers belong in."""
         found, goals = {}, set()
         for line in said.split("\n"):
             ended = ENDED.match(line)
@@ -168,7 +173,7 @@ class Crate:
         return found
 
     def put(self):
-        """Writes each Answers.antt with the answers that are kept; one with none goes."""
+        """Writes each Answers.antt with the answers that are kept, and removes a file without any."""
         for path, parts in self.parts.items():
             left = [part for part in parts if not answer_of(part) or (path, answer_of(part)) in self.kept]
             if any(answer_of(part) for part in left):
@@ -177,7 +182,7 @@ class Crate:
                 os.remove(path)
 
     def keep(self, wanted):
-        """Keeps these answers too, and those of the same file that they name, and says whether any is new."""
+        """Keeps these answers too, and those of the same file that they name. Returns whether any of them is new."""
         more = wanted - self.kept
         self.kept |= more
         for path, goal in more:
@@ -186,7 +191,7 @@ class Crate:
         return bool(more)
 
     def wanted(self, said):
-        """The answers of the goals that are open without them; where no answer goes by such a goal's name, all of that function."""
+        """The answers of the goals that are open without them. If no answer has the name of such a goal, these are all answers of its function."""
         at_body = set(AT_BODY.findall(said))
         found = {answer for answer in self.answers if answer[1] in at_body}
         for path, goals in self.open_goals(said).items():
@@ -198,7 +203,7 @@ class Crate:
         return found
 
     def slower(self, before, after):
-        """The answers that were taken away of the functions that take much longer without."""
+        """The removed answers of the functions that take over SLOWER seconds longer without them."""
         return {it for it in self.answers if it not in self.kept and after.get(it[0], 0) > before.get(it[0], 0) + SLOWER}
 
     def cited_by_nothing(self):
@@ -214,7 +219,7 @@ class Crate:
                 elif other.endswith(".edit"):
                     citing.append(" ".join(re.findall(r"^# pins: law \w+", whole, re.M)) if other.startswith(f"{self.folder}/") else "")
                 elif other != path and any(has_word(name, whole) for name in named):
-                    # an import alone cites nothing here; elsewhere it would have to go, too
+                    # an import in this crate doesn't count, as drop_imports removes it; one in another crate does
                     citing.append(re.sub(r"^use .*", "", whole, flags=re.M) if other.startswith(f"{self.folder}/") else whole)
             around = "\n".join(citing)
             parts = parts_of(text)
@@ -227,7 +232,7 @@ class Crate:
         return found
 
     def drop_imports(self, gone_from, names):
-        """Takes names of that file out of the crate's imports."""
+        """Removes these names of the file GONE_FROM from the crate's imports."""
         module = ".".join(self.module_of(gone_from))
         for path, text in self.proofs().items():
             def without(match):
@@ -238,7 +243,7 @@ class Crate:
                 write(path, changed)
 
     def prune(self):
-        """Takes away what is cited by nothing any more, until there is no more of it, then files that define nothing."""
+        """Removes what nothing cites any more, until nothing is left to remove, and then the files that define nothing."""
         touched = set()
         while True:
             gone = {it for it in self.cited_by_nothing() - self.uncited if os.path.basename(it[0]) != "Invariants.antt"}
@@ -259,11 +264,11 @@ class Crate:
                 os.rmdir(folder)
 
     def reduce(self):
-        """Does what the head of this file says, and gives a line that tells it, or why it couldn't."""
+        """Carries out the steps at the top of this file. Returns a line with the figures, or why the crate isn't proved."""
         self.run(*CHECK, "--only", "")
         status, said, before, first = self.run_anew()
         if status:
-            return f"not proved as it stands: {faults_in(said)}"
+            return f"not proved at the start: {faults_in(said)}"
         self.near = self.open_goals(self.run(*CHECK, "--margin", "--allow-holes")[1])
         lines = self.lines()
         while True:

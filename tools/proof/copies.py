@@ -1,12 +1,13 @@
 #!/usr/bin/env python3
-"""copies.py [CRATE..]: the lemmas that stand more than once.
+"""copies.py [CRATE..]: prints the lemmas that exist more than once.
 
-Prints each statement in crates/*/proofs that, but for the names of its variables, stands in another file too: of the crates, or, where it is public
-there, of the toolchain's library std or a port that crates.txt names. Given crates, only those statements of which one stands there. A line each: the crate and the file, or
-where the toolchain has it, and the lemma's name. Answers are left out, and statements that say little (under 40 characters).
+Prints each statement of crates/*/proofs that another file has too, whatever its variables are called. The other file is one of a crate, or, if the lemma
+is public there, one of the toolchain's library std or of a port that crates.txt names. With CRATE.., it prints only statements that one of these crates
+has. Below each statement is one line per lemma: the crate and the file, or the path in the toolchain, and the lemma's name. Answers are left out, and
+statements of less than 40 characters.
 
-A row is a place to look: what is private has to become `pub`, with its file `pub mod` in proofs/Lib.antt, and a lemma of a crate above serves nothing
-below. By hand; some ten seconds. The status is 0.
+A row is a place to look, not a fault. To share a private lemma, make it `pub` and its file `pub mod` in proofs/Lib.antt. A crate can't use a lemma of a
+crate above it. Run it by hand; it takes some ten seconds. The status is 0.
 """
 
 import glob
@@ -23,13 +24,13 @@ TOKEN = re.compile(r"[^\s(){}\[\],.;:→λ]+|[(){}\[\],.;:→λ]")
 
 
 def toolchain():
-    """The folder of the toolchain's libraries: beside the page that `rt doc` names."""
+    """The folder of the toolchain's libraries, which is next to the page that `rt doc` names."""
     page = subprocess.run(["rt", "doc"], capture_output=True, text=True, check=False, cwd=TOP).stdout.split("\n", 1)[0]
     return os.path.join(os.path.dirname(page), "rattle")
 
 
 def ports():
-    """The crates of the kit that crates.txt names."""
+    """The toolchain's crates that crates.txt names."""
     with open(f"{TOP}/crates.txt", encoding="utf-8") as file:
         rows = [line.split("#", 1)[0].partition(":") for line in file if ":" in line]
     own = {name.split()[0] for name, _, _ in rows}
@@ -37,7 +38,7 @@ def ports():
 
 
 def files():
-    """The files to look at, each with the name that it is told by."""
+    """The files to look at, each with the name that is printed for it; the toolchain's are in parentheses."""
     for path in glob.glob(f"{TOP}/crates/*/proofs/**/*.antt", recursive=True):
         yield path, os.path.relpath(path, f"{TOP}/crates").replace("/proofs/", "/", 1)
     root = toolchain()
@@ -47,7 +48,7 @@ def files():
 
 
 def statements(text, hidden):
-    """The name and the statement of each lemma of a file; of the hidden ones, too, where they are asked for."""
+    """The name and the statement of each lemma of a file. Private lemmas are left out unless `hidden` is true."""
     for part in re.split(r"\n\s*\n", text):
         lines = [line for line in part.split("\n") if not line.lstrip().startswith("--")]
         head = HEAD.match(lines[0]) if lines else None
@@ -91,7 +92,7 @@ def main():
             print(bare[:150])
             for told, name in sorted(places):
                 print(f"    {told} {name}")
-    print(f"{rows} statements stand more than once")
+    print(f"{rows} statements exist more than once")
 
 
 if __name__ == "__main__":

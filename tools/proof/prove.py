@@ -1,13 +1,13 @@
 #!/usr/bin/env python3
-"""prove.py GATE CRATE [FLAG..]: proves a crate as it stands here over the libraries that `rt ci` proved in another checkout.
+"""prove.py GATE CRATE [FLAG..]: proves this checkout's CRATE over the libraries that `rt ci` proved in another checkout.
 
-GATE is the top of a checkout in which `rt ci` ran, or runs: the library of a crate lies there as soon as it is proved, the lowest ones within minutes.
-So the proofs of a crate can be changed here without a check of all that lies below it. Of this checkout the files of CRATE alone are read; what lies
-below it is taken as it stands in GATE. What was checked is kept in the crate's out/over-gate, and a further run checks what changed; --anew checks all.
-FLAGS are those of the compiler's `check`: with --only FUNCTION it checks one function, with --allow-holes it prints the goals that are left.
+GATE is the top of a checkout in which `rt ci` ran or is running. It has a crate's library as soon as the crate is proved; the lowest ones are there within
+minutes. So the proofs of a crate can be changed here without checking the crates below it. Only the files of CRATE are read here; the crates below it are
+those of GATE. The crate's folder out/over-gate keeps the work: a further run checks only what changed, unless --anew is given. The other FLAGS are those
+of the compiler's `check`: --only FUNCTION checks one function, --allow-holes prints the open goals.
 
-The status is that of the compiler, 0 where the crate is proved, or 3 where a library isn't there yet. It is a help for whoever writes proofs, and no
-verdict: that is `rt check`'s, and the gate's.
+The status is the compiler's, which is 0 if the crate is proved, or 3 if a library isn't there yet. This tool helps while writing proofs. What counts are
+`rt check` and the gate.
 """
 
 import os
@@ -19,14 +19,14 @@ TOP = os.path.abspath(os.path.join(os.path.dirname(os.path.abspath(__file__)), "
 
 
 def crates():
-    """The libraries that each crate of crates.txt uses, by its name."""
+    """The crates of crates.txt by name, each with the libraries that it uses."""
     with open(f"{TOP}/crates.txt", encoding="utf-8") as file:
         lines = [line.split("#")[0].strip() for line in file]
     return {line.split(":")[0].split()[0]: line.split(":")[1].split() for line in lines if line}
 
 
 def below(names, used):
-    """These crates of the repository, and all that they stand on."""
+    """The crates of the repository among these names, and all crates below them."""
     found, left = set(), list(names)
     while left:
         name = left.pop()
@@ -37,7 +37,7 @@ def below(names, used):
 
 
 def command(gate, crate, flags):
-    """The compiler's call, as `rt ci` makes it, with what the flags add; it ends where a library isn't there yet."""
+    """The compiler's call as `rt ci` makes it, with these flags. Exits with status 3 if a library isn't there yet."""
     used = crates()
     kit = os.path.dirname(subprocess.run(["rt", "doc"], check=True, capture_output=True, text=True).stdout.strip())
     places = {name: f"{gate}/crates/{name}/out/rlib" for name in below(used[crate], used)}

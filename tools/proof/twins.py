@@ -1,29 +1,31 @@
 #!/usr/bin/env python3
-"""twins.py [--promised | --said FILE] [CRATE..]: which goal refuses each wrong body.
+"""twins.py [--promised | --said FILE] [CRATE..]: prints which goal refuses each wrong body.
 
-Each crates/CRATE/must-fail/NAME.edit is applied to a copy of the repository. The edited crate is
-checked, and the goals that the prover couldn't prove are compared with the clause that the first
-line of the edit pins. A NAME.right.md beside it, of the same form, is a right body of the same
-shape: the crate must be proved with it. Without one the body as it stands is its right pair, if
-the edit keeps all names. The last line counts the wrong bodies by what refuses them:
+It applies each crates/CRATE/must-fail/NAME.edit to a copy of the repository, checks the edited
+crate, and compares the goals that the prover couldn't prove with the clause that the first line of
+the edit pins. If there is a NAME.right.md of the same form, that is a right (correct) body of the
+same shape, and the crate must be proved with it. Otherwise the committed body serves as the right
+one, if the edit keeps all names. The last line counts the wrong bodies by what refuses them:
 
 - the pinned clause: a goal of the pinned function and of that clause isn't proved;
-- a loop of the pinned function: its invariant doesn't hold, and the clause rests on that;
+- a loop of the pinned function: its invariant, on which the clause depends, isn't proved;
 - another goal;
 - a limit of the prover, which gives no verdict;
-- names alone: no goal is left, and a proof file names what the edit took away;
-- nothing: the edit can't be applied or compiled, or the crate is proved with it.
+- names alone: no goal is open, but a proof file names something that the edit removed;
+- no try: the edit can't be applied or compiled;
+- nothing, and proved: the crate is proved with the edit.
 
-The status is 0 if no wrong body comes to the last two, each one that a promise names
-(tests/pins.py) is refused by its clause, and no right body is refused. With --promised those that
-a promise names are tried alone.
+The status is 0 if no wrong body counts under one of the last three, each one that a promise names
+(tests/pins.py) is refused by its clause, and no right body is refused. --promised tries only the
+wrong bodies that a promise names.
 
-It runs `rt check` some hundred times, over the work that is kept in each crate's out/ (`rt all
-check` first), ten to forty seconds each. The gate does it for one crate that stands on no other.
+It runs `rt check` some hundred times, for ten to forty seconds each. These checks reuse the work
+that each crate's out/ keeps, so run `rt all check` first. The gate tries one crate, which depends
+on no other.
 
-With --said nothing is tried: FILE is what `rt ci` printed, which shows of each wrong body the
-beginning of the first thing that the prover couldn't prove. What isn't refused there by the pinned
-clause may still be, further on: try it alone.
+With --said it tries nothing, but reads FILE, the output of `rt ci`. This shows for each wrong body
+only the beginning of the first thing that the prover couldn't prove. A wrong body that isn't
+refused there by its pinned clause may be refused by it further on: try its crate by itself.
 """
 
 import glob
@@ -42,7 +44,7 @@ sys.path.insert(0, f"{TOP}/tests")
 
 from pins import FORM, PROMISED, read  # noqa: E402
 
-# What a wrong body comes to. The last two show nothing of the contract, and neither do names.
+# What refuses a wrong body. The last three say nothing about the contract.
 PINNED = "the pinned clause"
 LOOP = "a loop of the pinned function"
 OTHER = "another goal"
@@ -52,16 +54,16 @@ UNTRIED = "no try"
 PROVED = "nothing, and proved"
 KINDS = (PINNED, LOOP, OTHER, LIMIT, NAMES, UNTRIED, PROVED)
 
-# an error at an answer or a lemma: the folder of its function, if it has one, its name, the error
+# an error at an answer or a lemma: the folder of its function (if any), its name, the error
 ANSWERED = re.compile(
     r"^(?:note: )?(?:\./)?proofs/(?:(\S+)/)?\w+\.antt:\d+:\d+: error: "
     r"(?:\d+ declarations? that depends? on )?`([^`]+)`(.*)"
 )
-# a goal that no answer has and no search proved; `rt ci` may cut its name short
+# a goal without an answer that the search didn't prove; `rt ci` may cut its name short
 OPEN = re.compile(r"^(?:note: )?(?:\./)?(src/\S+\.rt):(\d+):\d+: .*\(`([\w-]+)(`\))?")
-# what an error says where an edit took a name away that a proof file has
+# the error if a proof file uses a name that the edit removed
 GONE = re.compile(r"has no field|is not in scope|has no `|was not admitted")
-# what the gate prints of a wrong body: its crate and name, what it is only refused by, and an error
+# the gate's line on a wrong body: crate, name, "only ..." if that alone refuses it, and an error
 TRIED = re.compile(
     r"^(?:rt: )?must-fail (\w+)/(\S+)\.edit: refused, as it must be"
     r"(?: \((only [^()]*)\))?(?:: (.*))?$",
@@ -99,7 +101,7 @@ def pin_of(edit: str) -> Pin:
 
 
 def pairs(path: str) -> list[tuple[str, str, str]]:
-    """The file that an edit changes, and what it replaces by what, in turn."""
+    """The replacements of an edit in order: the file, the old text and the new one."""
     file, old, found = "", "", []
     for line in read(path).split("\n"):
         kind, _, text = line.partition(": ")
@@ -113,7 +115,7 @@ def pairs(path: str) -> list[tuple[str, str, str]]:
 
 
 def check_with(folder: str, edit: str) -> tuple[int, str]:
-    """The status of `rt check` in that folder with the edit applied, and what it prints."""
+    """The status of `rt check` in the folder with the edit applied, and its output."""
     before: dict[str, str] = {}
     try:
         for file, old, new in pairs(edit):
@@ -121,7 +123,7 @@ def check_with(folder: str, edit: str) -> tuple[int, str]:
             text = read(path)
             before.setdefault(path, text)
             if text.count(old) != 1:
-                return 2, f"what {edit} replaces doesn't stand once in {file}"
+                return 2, f"what {edit} replaces isn't exactly once in {file}"
             write(path, text.replace(old, new))
         ran = subprocess.run(
             ["rt", "check"],
@@ -146,7 +148,7 @@ def write(path: str, text: str) -> None:
 
 
 def function_at(folder: str, file: str, line: int) -> tuple[str, str]:
-    """The type, if it is a method, and the name of the function that a line of src/ lies in."""
+    """The type, or "" if it is no method, and the name of the function at a line of src/."""
     lines = read(f"{folder}/{file}").split("\n")
     while lines[line - 1].lstrip().startswith("#["):
         line += 1
@@ -162,7 +164,7 @@ def function_at(folder: str, file: str, line: int) -> tuple[str, str]:
 
 
 def goals_in(said: str, folder: str) -> list[Goal]:
-    """The goals that the prover couldn't prove, without those whose answer names what is gone."""
+    """The goals that the prover couldn't prove, except those whose answer uses a removed name."""
     found = []
     for line in said.split("\n"):
         answer, left = ANSWERED.match(line), OPEN.match(line)
@@ -181,8 +183,8 @@ def is_of_function(goal: Goal, pin: Pin) -> bool:
 
 
 def is_of_clause(goal: Goal, pin: Pin) -> bool:
-    """Whether a goal is one of the pinned clause: of what the function returns, or of the
-    invariant of the type after one of its methods."""
+    """Whether a goal belongs to the pinned clause, which is one on the function's result, or the
+    type's invariant after one of its methods."""
     if pin.clause == "invariant":
         return goal.name.startswith("invariant_of-") and goal.of_type.startswith(pin.function)
     if not is_of_function(goal, pin) or not goal.name.startswith("returns"):
@@ -193,7 +195,7 @@ def is_of_clause(goal: Goal, pin: Pin) -> bool:
 
 
 def refused_by(goals: list[Goal], said: str, pin: Pin) -> str:
-    """What refuses a wrong body of which the prover left these goals and said that."""
+    """What refuses a wrong body, by the open goals and the prover's output."""
     if any(is_of_clause(goal, pin) for goal in goals):
         return PINNED
     if any(is_of_function(goal, pin) and goal.name.startswith("loop-") for goal in goals):
@@ -205,7 +207,7 @@ def refused_by(goals: list[Goal], said: str, pin: Pin) -> str:
 
 
 def tried(folder: str, edit: str) -> str:
-    """What refuses the wrong body, tried alone."""
+    """Checks the wrong body and returns what refuses it."""
     status, said = check_with(folder, edit)
     if status == 0:
         return PROVED
@@ -215,21 +217,21 @@ def tried(folder: str, edit: str) -> str:
 
 
 def told(folder: str, edit: str, only: str, text: str) -> str:
-    """What refuses the wrong body by the gate's words: what it is only refused by, or an error."""
+    """What refuses the wrong body by the gate's line: its "only ...", if any, else its error."""
     if only:
         return LIMIT if "limit" in only else NAMES
     return refused_by(goals_in(text, folder), text, pin_of(edit))
 
 
 def is_wrong(crate: str, name: str, how: str) -> bool:
-    """Whether that shows nothing of the contract, or too little for a body that a promise names."""
+    """Whether HOW says nothing about the contract, or isn't the clause that a promise needs."""
     if f"{crate}/{name}" in PROMISED:
         return how != PINNED
     return how in (NAMES, UNTRIED, PROVED)
 
 
 def told_in(path: str) -> int:
-    """Prints what the gate's words in that file say of each wrong body."""
+    """Prints what refuses each wrong body by the gate's output in this file. Returns the status."""
     counts: Counter[str] = Counter()
     for crate, name, only, text in sorted(set(TRIED.findall(read(path)))):
         folder = f"{TOP}/crates/{crate}"
@@ -239,13 +241,13 @@ def told_in(path: str) -> int:
             counts[how] += 1
             if how != PINNED:
                 print(f"{crate}/{name}: {how}: {text[:200]}")
-    met = ", ".join(f"{kind} at {counts[kind]}" for kind in KINDS[:-1])
-    print(f"twins: what the gate met first at {sum(counts.values())} wrong bodies: {met}")
+    met = ", ".join(f"{kind} {counts[kind]}" for kind in KINDS[:-1])
+    print(f"twins: the gate's first refusals of {sum(counts.values())} wrong bodies: {met}")
     return 1 if counts[NAMES] else 0
 
 
 def edits_of(folder: str, promised: bool) -> list[str]:
-    """The wrong bodies of a crate, or those that a promise names."""
+    """The wrong bodies of a crate; with `promised`, only those that a promise names."""
     crate = os.path.basename(folder)
     found = sorted(glob.glob(f"{folder}/must-fail/*.edit"))
     if not promised:
@@ -254,7 +256,7 @@ def edits_of(folder: str, promised: bool) -> list[str]:
 
 
 def try_all(crates: list[str], promised: bool) -> int:
-    """Tries the wrong bodies of the crates, and the right bodies beside them, in a copy."""
+    """Tries the crates' wrong bodies, and their right bodies, in a copy. Returns the status."""
     counts: Counter[str] = Counter()
     right = wrong = 0
     with tempfile.TemporaryDirectory(prefix="bootmem-twins-") as room:
@@ -271,15 +273,15 @@ def try_all(crates: list[str], promised: bool) -> int:
                 twin = f"{folder}/must-fail/{name}.right.md"
                 if os.path.exists(twin) and check_with(folder, twin)[0] != 0:
                     right += 1
-                    how += ", and the right body is refused, too"
+                    how += "; the right body is refused, too"
                 print(f"{crate}/{name}: {how}", flush=True)
     refused = ", ".join(f"{kind} {counts[kind]}" for kind in KINDS)
-    print(f"twins: refused by {refused}; {right} right bodies refused, {wrong} tell too little")
+    print(f"twins: refused by {refused}; {right} right bodies refused, {wrong} show too little")
     return 1 if right or wrong else 0
 
 
 def main() -> int:
-    """Reads the words."""
+    """Reads the command line and returns the status."""
     words = sys.argv[1:]
     if words[:1] == ["--said"]:
         return told_in(words[1])
