@@ -1,12 +1,12 @@
-"""The tools beside bootmem, each a module with a `main(words)`, and what they share, for the
-tests of a virtual machine monitor, too:
+"""The tools around bootmem, each a module with a `main(words)`, and the modules that they share.
+These can also be used from elsewhere, such as the tests of a virtual machine monitor:
 
     inputs    zero page, extension, SRAT, SLIT and EFI memory map as bytes
-    runner    runs of the program: finding it, and its reports for words
+    runner    finding and running the program, and its reports for a list of words
     library   calls of libbootmem, without a process
     reports   texts of reports, and their lines as spans of addresses
     objects   reports as values of JSON
-    grammar   the table of the reports' lines, by which all of it reads
+    grammar   the table of the reports' lines, which all readers of reports use
     ranges    addresses, sizes and ranges
 
     >>> from bootmem_tools import inputs, library, reports

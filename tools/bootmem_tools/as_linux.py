@@ -1,5 +1,5 @@
-"""A boot's inputs prepared as Linux 6.1 reads them, and its early claims as a file of bootmem61:
-what bootmem-linux does, for other tools, too."""
+"""Prepares a boot's inputs as Linux 6.1 reads them, and writes the kernel's early claims as a
+claims file of bootmem61. bootmem-linux and other tools use it."""
 
 from __future__ import annotations
 
@@ -34,18 +34,18 @@ from bootmem_tools.reports import Texts, spans
 LINUX = "bootmem-linux"
 PAGES = {"4K": 4096, "2M": direct_map.PMD, "1G": direct_map.PUD}
 READ = ("cmdline", "e820ext", "srat", "slit", "efi")  # the files that are read here
-IMAGE = 16 * ranges.MIB, 48 * ranges.MIB  # what bootmem assumes
+IMAGE = 16 * ranges.MIB, 48 * ranges.MIB  # the place of the kernel's image that bootmem assumes
 FILE = tool.Kind("input of bootmem", 64 << 20, is_text=False)
 SOFT = str(inputs.SOFT_RESERVED)
 MIRRORED = 0x10000  # EFI_MEMORY_MORE_RELIABLE
-MADE = ("log_buf_len", "cma", "hugetlb_cma")  # options whose claims are made here
+MADE = ("log_buf_len", "cma", "hugetlb_cma")  # options whose claims this module makes
 OPTIONS = {name: value for name, value in words.BOOTMEM61.options.items() if name != "claims"}
 
 
 class Settings(NamedTuple):
-    """What no input of the program tells: the largest page of the direct map and what brk has in
-    None if they are assumed; whether x2APIC mode is on and whether the kernel has CMA; and
-    what its log tells."""
+    """What no input of the program has: the largest page of the direct map and the bytes of brk in
+    use, None if they are assumed; whether x2APIC mode is on and whether the kernel has CMA; and
+    what its log has."""
 
     pages: str | None = None
     brk: int | None = None
@@ -57,11 +57,11 @@ class Settings(NamedTuple):
 class Prepared(NamedTuple):
     """The words of bootmem61 for a boot as Linux makes it.
 
-    `core` are those of them that decide what the kernel claims early, without reports and scripts.
-    `texts` has the reports map, memory and nodes, empty if the program refuses the inputs. `line`
-    is the command line, `claims` the early claims, and `said` what was changed or assumed, or
-    can't be known, a line each. `place` is the note of an image that doesn't lie in RAM of the
-    map, or None."""
+    `core` are the words that decide what the kernel claims early, without reports and scripts.
+    `texts` has the reports map, memory and nodes; it is empty if the program refuses the inputs.
+    `line` is the command line, and `claims` are the early claims. `said` has one line for each
+    thing that was changed or assumed, or can't be known. `place` is the note on an image that
+    isn't all in RAM of the map, or None."""
 
     words: list[str]
     core: list[str]
@@ -73,7 +73,7 @@ class Prepared(NamedTuple):
 
 
 def add_options(parser: argparse.ArgumentParser) -> None:
-    """Adds the options for what no input tells."""
+    """Adds the options for what no input has."""
     parser.add_argument(
         "--pages",
         metavar="SIZE",
@@ -110,7 +110,7 @@ def add_log(parser: argparse.ArgumentParser) -> None:
 
 
 def add_raw(parser: argparse.ArgumentParser) -> None:
-    """Adds the option for the program's own reading, and those for what no input tells."""
+    """Adds the option for the program's own reading, and those for what no input has."""
     parser.add_argument(
         "--raw",
         action="store_true",
@@ -131,8 +131,8 @@ def add_flag(parser: argparse.ArgumentParser) -> None:
 def split_words(
     parser: argparse.ArgumentParser, given: Sequence[str]
 ) -> tuple[argparse.Namespace, Settings, list[str]]:
-    """Returns the words that a parser with the options of `add_options` and `add_log` knows, what
-    they tell of the boot, and the program's words."""
+    """Splits a command line. Returns the words for a parser with the options of `add_options` and
+    `add_log`, their settings, and the program's words."""
     own, rest = parser.parse_known_args(list(given))
     # bootmem has an option --pages, too, whose value is a file
     files = [value for value in own.pages if value not in PAGES and os.path.exists(value)]
@@ -142,7 +142,7 @@ def split_words(
 
 
 def settings_of(given: argparse.Namespace, parser: argparse.ArgumentParser) -> Settings:
-    """Returns what the tool's words tell; ends with status 2 for a size that isn't one."""
+    """Returns the settings of the tool's words; exits with status 2 for a malformed size."""
     size = None if given.brk is None else ranges.parse_size(given.brk)
     if given.brk is not None and size is None:
         parser.error(f"--brk {given.brk}: no size")
@@ -182,8 +182,7 @@ def read_program_words(rest: list[str]) -> Given | None:
 
 
 class Boot:
-    """A boot's inputs while they are prepared, in a folder of their own, and what is to be said of
-    them."""
+    """A boot's inputs while they are prepared, in a folder of their own, and the notes on them."""
 
     def __init__(
         self, settings: Settings, given: Given, program: str, work: str, folder: str | None = None
@@ -210,7 +209,7 @@ class Boot:
         return tool.read_bytes(os.path.join(self.folder, path), FILE)
 
     def say(self, kind: str, what: str) -> None:
-        """Keeps what was changed or assumed, or can't be known."""
+        """Adds a note on what was changed or assumed, or can't be known."""
         self.said.append(f"{kind}: {what}")
 
     def write(self, name: str, data: bytes) -> str:
@@ -221,8 +220,8 @@ class Boot:
         return path
 
     def words(self, with_rest: bool) -> list[str]:
-        """Returns the program's words for the prepared inputs, which are written into the folder;
-        without the rest only those that the tool's own runs need."""
+        """Returns the program's words for the prepared inputs, and writes these into the folder.
+        Without the rest these are only the words that the tool's own runs need."""
         found = []
         for name, value in self.given.options.items():
             if name in READ:
@@ -238,8 +237,8 @@ class Boot:
         return found + [self.write("zeropage", self.page)]
 
     def read_extension(self) -> None:
-        """Drops a far entry of the extension with what follows, and a part of an entry
-        (__append_e820_table)."""
+        """Drops the extension's first entry that ends beyond 2^64 with all that follow, and an
+        incomplete entry at the end (__append_e820_table)."""
         data = self.files.get("e820ext")
         if data is None or len(data) < 16 or struct.unpack_from("<I", data, 8)[0] != 1:
             return
@@ -260,8 +259,8 @@ class Boot:
             self.files["e820ext"] = inputs.extension(entries[:far])
 
     def read_line(self) -> None:
-        """Reads the command line as the kernel does; EFI memory of specific purpose acts as
-        add_efi_memmap."""
+        """Reads the command line as the kernel does. EFI memory of specific purpose has the effect
+        of add_efi_memmap."""
         base = (
             ["--e820ext", self.write("e820ext", self.files["e820ext"])]
             if "e820ext" in self.files
@@ -293,12 +292,12 @@ class Boot:
         self.keep_line()
 
     def adds_efi(self) -> bool:
-        """Tells whether the line adds EFI's map; the word may have a value
+        """Returns whether the line adds EFI's map; the word may have a value
         (setup_add_efi_memmap)."""
         return any(word.name == command_line.EFI for word in command_line.words_of(self.line)[0])
 
     def keep_line(self) -> None:
-        """Makes the line the program's, if there is anything in it."""
+        """Passes the line to the program, unless it is empty."""
         if self.line or "cmdline" in self.files:
             self.files["cmdline"] = self.line.encode("latin-1") + b"\n"
 
@@ -311,8 +310,8 @@ class Boot:
         self.keep_line()
 
     def drop_descriptors(self) -> None:
-        """Drops the descriptors of EFI's map that the kernel finds invalid. With add_efi_memmap it
-        adds them to its map before."""
+        """Drops the descriptors of EFI's map that the kernel finds invalid. With add_efi_memmap the
+        kernel adds them to its map before it drops them."""
         if "efi" not in self.files:
             return
         cleaned = linux_map.clean_descriptors(self.files["efi"])
@@ -330,7 +329,7 @@ class Boot:
             )
 
     def read_efi(self) -> None:
-        """Takes the attribute of mirrored memory out of EFI's descriptors, unless the line has
+        """Clears the attribute of mirrored memory in EFI's descriptors, unless the line has
         kernelcore=mirror (memblock_mark_mirror)."""
         words_read = command_line.words_of(self.line)[0]
         data = bytearray(self.files.get("efi", b""))
@@ -353,7 +352,7 @@ class Boot:
         )
 
     def mark_setup_data(self) -> None:
-        """Gives RAM of setup_data's nodes type 128 (e820__reserve_setup_data)."""
+        """Sets the type of RAM that holds nodes of setup_data to 128 (e820__reserve_setup_data)."""
         if not linux_claims.has_setup_data(self.page):
             return
         line = self.line
@@ -393,7 +392,7 @@ class Boot:
             self.files["slit"] = inputs.sealed(table)
 
     def run(self) -> bool:
-        """Keeps the reports of the map, of memory and of nodes; tells whether the program made
+        """Keeps the reports of the map, of memory and of nodes; returns whether the program made
         them."""
         names = ["map", "memory", "nodes"]
         status, text, _ = runner.call_program(self.program, names, self.words(False))
@@ -411,7 +410,7 @@ class Boot:
 
     def restore_image(self) -> bool:
         """Makes the kernel's image RAM again if the map says otherwise (e820_add_kernel_range);
-        tells whether the program still runs."""
+        returns whether the program still runs."""
         first, end = self.image[0], self.image[1] + linux_claims.END_AFTER_BRK
         self.place = notes.place_note(self.given.options.get("kernel"), self.texts)
         if direct_map.is_within(self.ram(), first, end):
@@ -432,9 +431,9 @@ class Boot:
         return self.run()
 
     def settle_map(self, first: int, end: int) -> None:
-        """Puts the map with EFI's entries, in which a range is RAM, into the zero page and its
-        extension, and takes the words that made it out of the line: EFI's entries come after all
-        of these, so no word could make the range RAM."""
+        """Writes the settled map, with EFI's entries and with this range as RAM, into the zero page
+        and its extension, and drops the words that made the map from the line. EFI's entries come
+        after all of these words, so no word could make the range RAM."""
         entries = [
             (run.first, run.last + 1 - run.first, int(run.fields["type"])) for run in self.entries
         ]
@@ -457,7 +456,7 @@ class Boot:
         return min(largest, direct_map.PMD) if "nogbpages" in names else largest
 
     def machine(self) -> linux_claims.Machine:
-        """Returns what the rules of the claims read."""
+        """Returns the facts about the machine that the rules of the claims use."""
         nodes = list(read_lines("nodes", self.texts["nodes"]))
         used = any(one.kind == "numa" and one.fields["name"] == "used" for one in nodes)
         ids = [int(one.fields["node"]) for one in nodes if "node" in one.fields]
@@ -489,7 +488,7 @@ class Boot:
         )
 
     def claim(self) -> None:
-        """Makes what the kernel claims early."""
+        """Determines the kernel's early claims."""
         machine = self.machine()
         outcome = linux_claims.early_claims(machine)
         self.claims = outcome.claims
@@ -502,8 +501,8 @@ class Boot:
         self.claim_areas(machine, outcome)
 
     def claim_areas(self, machine: linux_claims.Machine, outcome: linux_claims.Outcome) -> None:
-        """Claims the areas of cma= and hugetlb_cma=, if the kernel has them. They come after node
-        data, which has the highest places, so claiming them before it moves nothing."""
+        """Claims the areas of cma= and hugetlb_cma=, if the kernel has them. The kernel claims them
+        after node data, which gets the highest places; so claiming them before moves nothing."""
         if not linux_cma.is_asked(self.line):
             return
         if not self.settings.cma:
@@ -538,8 +537,8 @@ class Boot:
         self.claims += [linux_claims.Claim(*span, what, rule) for span, what, rule in areas]
 
     def check_claims(self) -> None:
-        """Says which early claims the program can't make. Only a table that grew can be in the way,
-        so few claims aren't looked at."""
+        """Adds a note on each early claim that the program can't make. Only a table that grew can be
+        in the way, so a boot with few claims isn't checked."""
         if len(self.claims) < linux_claims.FEW:
             return
         for line, claim, answer in answered(self.program, self.words(False), self.claims):
@@ -547,7 +546,7 @@ class Boot:
                 self.say("unknown", f"{claim.what} isn't claimed: {line}: {answer} ({claim.rule})")
 
     def explain(self) -> None:
-        """Says what was assumed and can't be known."""
+        """Adds notes on what was assumed or can't be known."""
         if "kernel" not in self.given.options:
             self.say("assumed", runner.ASSUMED)
         if self.settings.pages is None:
@@ -579,7 +578,7 @@ class Boot:
             self.explain_efi()
 
     def explain_efi(self) -> None:
-        """Says what can't be known of a boot with UEFI firmware."""
+        """Adds notes on what can't be known about a boot with UEFI firmware."""
         if "efi" not in self.files:
             self.say(
                 "unknown",
@@ -619,12 +618,12 @@ class Boot:
 
 
 def is_whole_slit(table: bytes) -> bool:
-    """Tells whether a table is a SLIT with a whole header, and as long as that says."""
+    """Returns whether a table is a SLIT with a whole header and of the length that this states."""
     return table[:4] == b"SLIT" and int.from_bytes(table[4:8], "little") == len(table) >= 44
 
 
 def is_valid_slit(table: bytes) -> bool:
-    """Tells whether the kernel takes the distances of a SLIT (slit_valid)."""
+    """Returns whether the kernel takes the distances of a SLIT (slit_valid)."""
     if len(table) < 44 or table[:4] != b"SLIT":
         return False
     count: int = struct.unpack_from("<Q", table, 36)[0]
@@ -655,8 +654,8 @@ def claims_file(lines: Sequence[str]) -> bytes:
 def answered(
     program: str, core: Sequence[str], claims: Sequence[linux_claims.Claim]
 ) -> Iterator[tuple[str, linux_claims.Claim, str]]:
-    """Yields the lines of the claims file, each with its claim and the program's answer, which is
-    empty if the boot stops."""
+    """Yields the lines of the claims file, each with its claim and the program's answer; the answer
+    is empty if the boot stops."""
     status, text, _ = runner.call_program(program, ["claims"], core)
     answers = [line.partition(": ")[2] for line in text.splitlines()] * (status == 0)
     made = linux_claims.file_lines(claims)
@@ -665,8 +664,8 @@ def answered(
 
 
 def prepare(boot: Boot) -> Prepared:
-    """Returns the program's words for the boot as the kernel makes it; if the program refuses the
-    inputs, without early claims."""
+    """Returns the program's words for the boot as the kernel makes it. If the program refuses the
+    inputs, there are no early claims."""
     boot.read_extension()
     boot.read_line()
     boot.drop_descriptors()
@@ -703,10 +702,10 @@ def refuse_itself(program: str) -> None:
 def prepared(
     program: str, program_words: Sequence[str], settings: Settings, folder: str | None = None
 ) -> Iterator[Prepared]:
-    """Prepares the inputs that the program's words name, relative to a folder if it is given. If
-    the program will refuse them, the words stay as they are.
+    """Prepares the inputs that the program's words name; paths are relative to the folder, if one is
+    given. If the program will refuse the inputs, the words don't change.
 
-    Files of the prepared inputs are there until the context ends."""
+    The files of the prepared inputs exist until the context ends."""
     refuse_itself(program)
     given = read_program_words(list(program_words))
     untouched = Prepared(list(program_words), [], {}, "", [], [])
@@ -719,20 +718,21 @@ def prepared(
 
 
 def lines_of(boot: Prepared) -> list[str]:
-    """Returns what is to be known of a prepared boot, a line each."""
+    """Returns the notes on a prepared boot, one line each."""
     note = notes.srat_note(notes.value_in(boot.words, "--srat"), boot.texts)
     return boot.said + ([note] if note else [])
 
 
 def why_failed(status: int, said: str, given: Sequence[str]) -> str | None:
-    """Returns why the program refused these words, or couldn't read a file; None if it said more
-    than one line itself, as the installed command does, or if the words don't tell."""
+    """Returns why the program refused these words or couldn't read a file. Returns None if the
+    words don't show it, or if the program printed more than one line, as the installed command
+    does, which adds the reason itself."""
     name = runner.name_in(said)
     return explain.explain(name, status, given) if said.count(f"{name}: ") == 1 else None
 
 
 def explained(failure: runner.Failed, names: Sequence[str], given: Sequence[str]) -> tool.Trouble:
-    """Returns the trouble of a run for these reports and words, with the reason if the words tell it."""
+    """Returns the error for a failed run, with the reason if the words show it."""
     why = why_failed(failure.ended, failure.said, ["--report", ",".join(names), *given])
     if not why:
         return failure
@@ -752,7 +752,7 @@ def run_explained(program: str, names: Sequence[str], given: Sequence[str]) -> T
     """Returns the reports of these names for these words.
 
     # Errors
-    A Trouble, with the reason if the words tell it, if the program doesn't end with status 0.
+    A Trouble if the program doesn't end with status 0, with the reason if the words show it.
     """
     try:
         return runner.run_program(program, names, given)

@@ -100,7 +100,7 @@ class Monitor:
             return file.read()
 
     def has_five_levels(self) -> bool:
-        """Tells whether the kernel's page tables have five levels."""
+        """Returns whether the kernel's page tables have five levels."""
         said = self.execute("human-monitor-command", **{"command-line": "info registers"})
         match = re.search(r"CR4=([0-9a-f]+)", said)
         return bool(match and int(match.group(1), 16) & FIVE_LEVELS)
@@ -164,7 +164,7 @@ def zero_page_of(image: bytes) -> bytes:
 
 
 def has_entries(page: bytes) -> bool:
-    """Tells whether a page could be a zero page: it names a loader, and has entries of known
+    """Returns whether a page could be a zero page: it names a loader, and has entries of known
     types, none of which is empty."""
     count = page[inputs.COUNT]
     if not page[inputs.LOADER_TYPE] or not 2 <= count <= inputs.ROOM:

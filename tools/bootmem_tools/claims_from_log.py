@@ -224,14 +224,14 @@ def image_of(log: Log) -> Range | None:
 
 
 def low_alone(claim: Claim) -> bool:
-    """Tells whether a claim lies in the first MiB, which bootmem claims whole."""
+    """Returns whether a claim lies in the first MiB, which bootmem claims whole."""
     if claim.place is not None:
         return claim.place[1] < MIB
     return claim.request is not None and 0 < claim.request.high <= MIB
 
 
 def is_crash(claim: Claim) -> bool:
-    """Tells whether a claim is for the crash area: asked for by reserve_crashkernel, which may
+    """Returns whether a claim is for the crash area: asked for by reserve_crashkernel, which may
     be part of setup_arch in a build."""
     return claim.caller.startswith("reserve_crashkernel") or (
         claim.caller == "setup_arch" and claim.request is not None and claim.request.align in CRASH_ALIGNS)

@@ -407,7 +407,7 @@ def kernel_crash(raw: str, words: Sequence[Word], total: Totals,
 
 
 def is_taken_from(data: bytes, first: int, total: Callable[[str], Total]) -> bool:
-    """Tells whether the kernel takes what it asks for of the crash area from what a line has from
+    """Returns whether the kernel takes what it asks for of the crash area from what a line has from
     this byte on, at least in part."""
     raw = raw_line(data)[:LONGEST]
     words, _ = words_of(raw)
@@ -420,7 +420,7 @@ def is_taken_from(data: bytes, first: int, total: Callable[[str], Total]) -> boo
 
 
 def asks_for_area(text: str) -> bool:
-    """Tells whether words ask for a crash area, also by a name that is nearly crashkernel; a size
+    """Returns whether words ask for a crash area, also by a name that is nearly crashkernel; a size
     of 0 asks for none."""
     for word in words_of(text)[0]:
         value = program_word(word.text)[1] or ""

@@ -406,7 +406,7 @@ def main(words: list[str]) -> int:
 
 
 def answer(own: Machine, given: argparse.Namespace) -> bool:
-    """Prints what fits on a machine; tells whether what is asked for does."""
+    """Prints what fits on a machine; returns whether what is asked for does."""
     texts, stop = own.run("", ["map", "nodes", "memory", "journal"])
     if stop:
         raise tool.Trouble(f"the boot stops without a crash area: {without_stop(stop)}")

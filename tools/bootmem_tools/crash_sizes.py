@@ -39,7 +39,7 @@ class Found(NamedTuple):
 
     @property
     def fits(self) -> bool:
-        """Tells whether all that is asked for fits, or if nothing is, whether anything does."""
+        """Returns whether all that is asked for fits, or if nothing is, whether anything does."""
         if self.outcomes:
             return all(one.area for one in self.outcomes)
         return any(one.size for one in self.greatest)

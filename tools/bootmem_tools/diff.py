@@ -71,12 +71,12 @@ def read_words(words: list[str]) -> Sides:
 
 
 def judge_side(first: bytes) -> str | None:
-    """Returns why a text that begins with these bytes has no report and is no log, or None."""
+    """Returns why a text that begins with these bytes is neither reports nor a log, or None."""
     return None if kernel_log.HEAD.encode() in first else reports.judge_reports(first)
 
 
 def read_side(path: str) -> tuple[reports.Texts, bool]:
-    """Returns the reports of a file, or what a kernel's log says of memory, and whether it is a log.
+    """Returns the reports of a file, or those that a kernel's log gives, and whether it is a log.
 
     # Errors
     A Trouble if it is neither.
@@ -93,7 +93,7 @@ def read_side(path: str) -> tuple[reports.Texts, bool]:
 
 
 def run(program: str, names: list[str], text: str) -> tuple[list[str], reports.Texts]:
-    """Returns the words in one text, quoted as for a shell, and the program's reports for them."""
+    """Splits a text of words, quoted as for a shell. Returns them and the program's reports for them."""
     try:
         words = shlex.split(text)
     except ValueError as error:
@@ -102,8 +102,8 @@ def run(program: str, names: list[str], text: str) -> tuple[list[str], reports.T
 
 
 def changes(name: str, before: Iterable[str], after: Iterable[str]) -> list[Change]:
-    """Returns the ranges in which the two sides of a report differ: first, last, what A says,
-    what B says."""
+    """Returns the ranges in which the two sides of a report differ, each as its first and last byte
+    and what A and B have there."""
     found: list[Change] = []
     for first, last, sides in ranges.sweep(reports.spans(name, before), reports.spans(name, after)):
         was, now = (", ".join(span.name for span in side) or "none" for side in sides)
@@ -116,8 +116,8 @@ def changes(name: str, before: Iterable[str], after: Iterable[str]) -> list[Chan
 
 
 def chosen(names: list[str] | None, before: reports.Texts, after: reports.Texts) -> list[str]:
-    """Returns the reports to compare: the named ones, which both sides must have, or what both
-    have of map and owners."""
+    """Returns the reports to compare: the named ones, which both sides must have, or else those of
+    map and owners that both sides have."""
     for name in names or []:
         for side, have in (("A", before), ("B", after)):
             if name not in have:
@@ -130,7 +130,7 @@ def chosen(names: list[str] | None, before: reports.Texts, after: reports.Texts)
 
 
 def main(words: list[str]) -> int:
-    """Prints the differences; the status says whether there are any."""
+    """Prints the differences. Returns 1 if there are any, else 0."""
     before, after, names = read_words(words)
     reports.refuse_empty_map(before, "A")
     reports.refuse_empty_map(after, "B")

@@ -1,5 +1,5 @@
-"""Page tables of the kernel's direct map, and the places that memblock gives them, as Linux 6.1
-makes them (arch/x86/mm/init.c).
+"""The page tables of the kernel's direct map, and their places in memblock, as Linux 6.1 makes them
+(arch/x86/mm/init.c).
 
 Addresses are in bytes, and a range is its first byte and the one past its last.
 """
@@ -14,7 +14,7 @@ from bootmem_tools.ranges import FRAME, GIB, MIB
 PMD, PUD, P4D, PGD = 2 << 20, GIB, 1 << 39, 1 << 48  # what one entry of each table maps
 BRK_PAGES = 16  # pages of brk for page tables (INIT_PGT_BUF_SIZE)
 
-# A range: its first byte, and the one past its last.
+# A range: its first byte, and the byte past its last.
 Span = tuple[int, int]
 
 
@@ -29,7 +29,7 @@ def up(address: int, unit: int) -> int:
 
 
 def united(spans: Iterable[Span]) -> list[Span]:
-    """Returns the ranges, ascending; those that touch are one."""
+    """Returns the ranges, ascending, with those that touch or overlap joined."""
     whole: list[Span] = []
     for first, end in sorted(spans):
         if whole and first <= whole[-1][1]:
@@ -40,20 +40,20 @@ def united(spans: Iterable[Span]) -> list[Span]:
 
 
 def is_within(spans: list[Span], first: int, end: int) -> bool:
-    """Tells whether one of these ascending ranges has all of this range."""
+    """Returns whether one of these ascending ranges contains this range."""
     place = bisect.bisect_right(spans, (first, 1 << 64)) - 1
     return place >= 0 and spans[place][0] <= first and end <= spans[place][1]
 
 
 class Free:
-    """Memory that nobody has claimed, ascending, as memblock's search sees it
+    """The ranges of memory that nobody has claimed, ascending, in which memblock searches
     (memblock_find_in_range)."""
 
     def __init__(self, memory: Iterable[Span]) -> None:
         self.spans = united(memory)
 
     def claim(self, first: int, end: int) -> None:
-        """Takes a range away (memblock_reserve)."""
+        """Removes a range that is claimed (memblock_reserve)."""
         place = bisect.bisect_right(self.spans, (first, 0))
         place -= 1 if place and self.spans[place - 1][1] > first else 0
         stop, rest = place, []
@@ -65,12 +65,12 @@ class Free:
         self.spans[place:stop] = rest
 
     def release(self, spans: Iterable[Span]) -> None:
-        """Gives ranges of memory back (memblock_phys_free)."""
+        """Adds ranges of memory that are freed (memblock_phys_free)."""
         self.spans = united(self.spans + list(spans))
 
     def find(self, size: int, align: int, low: int, high: int) -> int:
-        """Returns the highest place of this size and alignment from `low` on that ends by `high`,
-        or 0."""
+        """Returns the highest address of a free place of this size and alignment that lies between
+        `low` and `high`, or 0 if there is none."""
         low = max(low, FRAME)
         place = bisect.bisect_left(self.spans, (high, 0)) - 1
         while place >= 0 and self.spans[place][1] > low:
@@ -82,7 +82,7 @@ class Free:
         return 0
 
     def take(self, size: int, align: int, low: int, high: int) -> int:
-        """Claims the place that `find` returns, and returns it."""
+        """Finds a place as `find` does, claims it and returns its address, or 0."""
         place = self.find(size, align, low, high)
         if place:
             self.claim(place, place + size)
@@ -90,7 +90,7 @@ class Free:
 
 
 class Table(NamedTuple):
-    """A page of memblock that became a page table: its place, and the window of the search."""
+    """A page from memblock for a page table: its address, and the window of the search."""
 
     place: int
     low: int
@@ -102,11 +102,11 @@ class Exhausted(Exception):
 
 
 class DirectMap:
-    """The direct map while it is made: its tables, what is mapped, and the pages of memblock that
-    became tables.
+    """The direct map while it is made: its tables, the mapped ranges, and the pages from memblock
+    that became tables.
 
-    Tables come from brk while it lasts. `largest` is the largest page in bytes: 4 KiB, 2 MiB or
-    1 GiB."""
+    Tables use pages of brk until these run out. `largest` is the largest page in bytes: 4 KiB,
+    2 MiB or 1 GiB."""
 
     def __init__(
         self,
@@ -131,7 +131,7 @@ class DirectMap:
         self.mapped: list[Span] = []
 
     def add_page(self) -> None:
-        """Takes a page for a table (alloc_low_pages)."""
+        """Allocates a page for a table (alloc_low_pages)."""
         if self.brk < self.brk_end and self.may_use_brk:
             self.brk += FRAME
             return
@@ -142,8 +142,8 @@ class DirectMap:
             raise Exhausted
 
     def add_table(self, level: int, number: int) -> None:
-        """Makes a table if it isn't there: level 2 maps one entry of 2 MiB, 3 one of 1 GiB, 4 one
-        of 512 GiB, 5 one of 256 TiB."""
+        """Makes the table of this level and number, unless it exists. Tables of level 2, 3, 4 and 5
+        each belong to an entry of 2 MiB, 1 GiB, 512 GiB and 256 TiB."""
         if (level, number) not in self.tables:
             self.add_page()
             self.tables.add((level, number))
@@ -170,8 +170,8 @@ class DirectMap:
         return found
 
     def page_size(self, first: int, end: int) -> int:
-        """Returns the largest page for a part: one whose surroundings, rounded to such pages, are
-        memory (memblock_is_region_memory)."""
+        """Returns the size of the largest page for a part. The part, rounded out to such pages,
+        must all be memory (memblock_is_region_memory)."""
         for size in (PUD, PMD):
             if size <= self.largest and (
                 first % size == 0 == end % size
@@ -194,8 +194,7 @@ class DirectMap:
         self.mapped.append((first, end))
 
     def map_giant(self, first: int, end: int, size: int) -> None:
-        """Maps what a range has of one GiB, by pages of this size (phys_pud_init,
-        phys_pmd_init)."""
+        """Maps a range inside one GiB with pages of this size (phys_pud_init, phys_pmd_init)."""
         if self.has_five_levels:
             self.add_table(5, first // PGD)
         self.add_table(4, first // P4D)
@@ -223,7 +222,7 @@ class DirectMap:
         (init_range_memory_mapping)."""
         size = 0
         for low, high in self.memory_within(first, end):
-            # brk pages aren't used while what is mapped has brk's unused pages inside
+            # brk's pages aren't used while the range that is being mapped contains unused ones
             self.may_use_brk = max(low, self.brk) >= min(high, self.brk_end)
             self.map_range(low, high)
             size += high - low
@@ -231,8 +230,7 @@ class DirectMap:
         return size
 
     def make(self, end: int) -> None:
-        """Maps all memory up to this end, from the top down (init_mem_mapping,
-        memory_map_top_down).
+        """Maps all memory below `end`, from the top down (init_mem_mapping, memory_map_top_down).
 
         # Errors
         Exhausted if no memory is left for a table.

@@ -9,7 +9,7 @@ from typing import Iterable
 from bootmem_tools import machine, ranges, tool
 from bootmem_tools.inputs import ACPI, NVS, RAM, RESERVED, SOFT_RESERVED, UNUSABLE, Entry
 
-# Types by the names that the kernel gives them there (e820_type_to_string).
+# The types by the names that the kernel prints there (e820_type_to_string).
 TYPES = {
     "System RAM": RAM,
     "Reserved": RESERVED,
@@ -20,13 +20,13 @@ TYPES = {
     "Persistent Memory": 7,
     "Persistent Memory (legacy)": 12,
     "Soft Reserved": SOFT_RESERVED,
-    "Unknown E820 type": RESERVED,  # of a type without a name: no memory either
+    "Unknown E820 type": RESERVED,  # a type without a name, which isn't memory either
 }
 SHORT = tool.Kind("number or type of an entry", 64)
 
 
 def is_memmap(path: str) -> bool:
-    """Tells whether the path is that of a folder like /sys/firmware/memmap."""
+    """Returns whether the path names a folder like /sys/firmware/memmap."""
     return os.path.isfile(os.path.join(path, "0", "start"))
 
 
@@ -50,10 +50,10 @@ def entries_of_memmap(path: str) -> list[Entry]:
 
 
 def number_in(path: str) -> int:
-    """Returns the number of a file that has one in hexadecimal, and nothing else.
+    """Returns the number of a file that has one hexadecimal number and nothing else.
 
     # Errors
-    A Trouble if it hasn't.
+    A Trouble if the file has anything else.
     """
     text = tool.read_text(path, kind=SHORT).strip()
     number = ranges.parse_size(text) if text.startswith("0x") else None
@@ -63,13 +63,13 @@ def number_in(path: str) -> int:
 
 
 def is_iomem(text: str) -> bool:
-    """Tells whether a text is that of /proc/iomem."""
+    """Returns whether a text is that of /proc/iomem."""
     return any(one.name in TYPES for one in machine.read_iomem(text[: 1 << 16]))
 
 
 def entries_of_iomem(text: str) -> list[Entry]:
-    """Returns the entries of a text of /proc/iomem, as the kernel's own map has them; a resource
-    within one of them is none.
+    """Returns the entries of the kernel's own map from a text of /proc/iomem. A resource inside
+    another one isn't an entry.
 
     # Errors
     A Trouble if the kernel hid the addresses, which it does without root.
@@ -81,8 +81,8 @@ def entries_of_iomem(text: str) -> list[Entry]:
 
 
 def outermost(found: Iterable[machine.Resource]) -> list[tuple[int, int, int]]:
-    """Returns first and last byte and type of the resources that are entries, without those
-    within another one."""
+    """Returns first and last byte and type of the resources that are entries, without those inside
+    another one."""
     kept: list[tuple[int, int, int]] = []
     for one in found:
         if one.name in TYPES and one.first <= one.last and not (kept and one.first <= kept[-1][1]):

@@ -162,7 +162,7 @@ def line_of(folder: str, plan: Plan) -> tuple[bytes, int]:
 
 
 def takes_added(folder: str, plan: Plan, row: objects.Object) -> bool:
-    """Tells whether the crash area of a folder's row is, at least in part, the one that the added
+    """Returns whether the crash area of a folder's row is, at least in part, the one that the added
     words ask for."""
     if not row["crash"] or row["crash"]["outcome"] == "none":
         return False

@@ -1,5 +1,5 @@
-"""What bootmem-draw leaves out of a picture: rows outside a range of addresses, and of too many
-rows those for which there is no room, folded into rows with their number."""
+"""Reduces the rows of bootmem-draw's picture: drops those outside a range of addresses, and folds
+rows for which there is no room into single rows that state how many they are."""
 
 from __future__ import annotations
 
@@ -11,8 +11,8 @@ from bootmem_tools.columns import GREY, Column, Row
 
 
 def cut(columns: Sequence[Column], first: int, last: int) -> list[Column]:
-    """Returns the columns with the bytes from first to last alone; a row that is cut keeps its name,
-    its tip and its whole size."""
+    """Returns the columns with only the bytes from first to last. A row that is cut keeps its name,
+    its tool tip and its whole size."""
     def part(row: Row) -> Row:
         """Returns the row's bytes in the range."""
         return row._replace(first=max(row.first, first), last=min(row.last, last), whole=row.size)
@@ -25,8 +25,8 @@ def cut(columns: Sequence[Column], first: int, last: int) -> list[Column]:
 
 
 def folded(columns: Sequence[Column], height: Callable[[Sequence[Column]], int], most: int) -> Sequence[Column]:
-    """Returns the columns, folded until their height is at most so much: of all ends of rows those of
-    the greatest rows are kept, and what has other ends is folded between them."""
+    """Returns the columns, folded until their height is at most `most`. The ends of the largest rows
+    are kept as borders, and the rows between two borders are folded into one."""
     if height(columns) <= most:
         return columns
     ends = by_weight(columns)
@@ -42,8 +42,9 @@ def folded(columns: Sequence[Column], height: Callable[[Sequence[Column]], int],
 
 
 def by_weight(columns: Sequence[Column]) -> list[int]:
-    """Returns all ends of rows: the first and the last one, then by the size of the greatest row that
-    begins or ends there, in powers of 4; those of like sizes in an order that spreads them."""
+    """Returns all ends of rows, the most important first: the first and the last one, then by the size
+    of the largest row that begins or ends there, in powers of 4. Those of about one size come in an
+    order that spreads them over the picture."""
     weight: dict[int, int] = {}
     for column in columns:
         for lane in column.lanes:
@@ -59,8 +60,8 @@ def by_weight(columns: Sequence[Column]) -> list[int]:
 
 
 def folded_lane(lane: Sequence[Row], kept: Sequence[int]) -> Iterator[Row]:
-    """Yields the rows of a lane whose ends are kept, and for those between that are not, one row from
-    the last kept end before them to the first one after them."""
+    """Yields the rows of a lane whose ends are kept. Other rows are folded into one row each, which
+    reaches from the last kept end before them to the first one after them."""
     group: list[Row] = []
     first = after = 0
     for row in lane:
@@ -80,7 +81,7 @@ def folded_lane(lane: Sequence[Row], kept: Sequence[int]) -> Iterator[Row]:
 
 
 def one_row(group: Sequence[Row], first: int, after: int) -> Row:
-    """Returns the row that stands for others, from `first` up to `after`."""
+    """Returns one row in place of a group, from `first` up to, but not including, `after`."""
     rows = [row for row in group if row.colour is not None] or group
     if len(rows) == 1:
         return rows[0]._replace(first=first, last=after - 1, whole=rows[0].size)

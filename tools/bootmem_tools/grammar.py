@@ -1,8 +1,7 @@
-"""The reports' grammar: one table of the lines that each report may have, with the fields of
-each.
+"""The reports' grammar: one table of the lines that each report may have, with their fields.
 
-The forms are those of docs/FORMATS.md. All that reads a report goes by this table, and a line
-that no row of its report fits is an error.
+docs/FORMATS.md describes the forms. All readers of reports use this table. A line is an error if
+it matches no row of its report.
 """
 
 from __future__ import annotations
@@ -14,7 +13,7 @@ from bootmem_tools.tool import Trouble, quoted
 
 ADDRESS, NUMBER, WORD, TEXT = r"0x[0-9a-f]{16}", r"\d{1,20}", r"\S+", r".+"
 
-# The fields of lines that aren't numbers: what each looks like. A field that isn't named here is a number.
+# The fields that aren't numbers, each with a regular expression. A field that isn't named here is a number.
 FIELDS = {
     **dict.fromkeys(("first", "last", "place", "start", "size", "base", "map", "usage", "limit"),
                     ADDRESS),
@@ -28,14 +27,14 @@ FIELDS = {
     "orders": r"(?: +\d+){11}",
     "on": "on|off",
 }
-# The numbers that have bounds.
+# The numbers that have an upper bound.
 BOUNDED = {
     "order": "10|[0-9]",
 }
 
-# The rows of each report, by the report's name: the kind of a line, and its form, in which
-# <first>..<last> and the like are fields. <field:..> is a field of the values that follow the
-# colon; all else is a regular expression. The order of rows is that in which a line is tried.
+# The rows of each report, by the report's name: the kind of a line, and its form. In a form,
+# <first>..<last> and the like are fields, and <field:..> is a field with one of the values after
+# the colon; all else is a regular expression. A line has the kind of the first row that it matches.
 GRAMMAR = {
     "map": {"run": "<first>..<last> <type> <name>"},
     "options": {
@@ -130,7 +129,7 @@ def compiled(form: str) -> re.Pattern[str]:
     return re.compile(re.sub(r"<([a-z_]+(?::[^>]+)?)>", field, form.replace("..", r"\.\.")))
 
 
-GRAMMAR["claims"] = GRAMMAR["script"]  # of bootmem61
+GRAMMAR["claims"] = GRAMMAR["script"]  # a report of bootmem61
 
 ROWS = {name: {kind: compiled(form) for kind, form in rows.items()}
         for name, rows in GRAMMAR.items()}
@@ -140,7 +139,7 @@ def read_lines(name: str, texts: Iterable[str]) -> Iterator[Line]:
     """Yields the lines of a report.
 
     # Errors
-    A Trouble if the report isn't known, or with the number of the first line that no row fits.
+    A Trouble if the report isn't known, or if a line matches no row; it names the first such line.
     """
     if name not in ROWS:
         raise Trouble(f"{quoted(name)}: no report of bootmem")
@@ -156,7 +155,6 @@ def read_lines(name: str, texts: Iterable[str]) -> Iterator[Line]:
 
 
 def report_of(text: str) -> str | None:
-    """Returns the name of the first report that may have a line like this one, or None if none
-    may."""
+    """Returns the name of the first report that may have a line like this one, or None."""
     return next((name for name, rows in ROWS.items()
                  if any(form.fullmatch(text) for form in rows.values())), None)

@@ -183,7 +183,7 @@ def line_of_log(lines: Numbered) -> str | None:
 
 
 def is_uefi(lines: Numbered) -> bool:
-    """Tells whether a log is that of a boot with UEFI firmware (efi_init, efi_memblock_x86_reserve_range)."""
+    """Returns whether a log is that of a boot with UEFI firmware (efi_init, efi_memblock_x86_reserve_range)."""
     return any(UEFI.search(line) for _, line in lines)
 
 

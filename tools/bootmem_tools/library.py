@@ -279,7 +279,7 @@ class _Room:
         self.text = _Text(ctypes.cast(self.buffer, ctypes.POINTER(ctypes.c_char)), room, 0)
 
     def fits(self) -> bool:
-        """Tells whether the text had room."""
+        """Returns whether the text had room."""
         return bool(self.text.needed <= self.text.room)
 
     def taken(self) -> bytes:

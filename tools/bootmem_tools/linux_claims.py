@@ -159,7 +159,7 @@ def move_initrd(page: bytes, place: int) -> bytes:
 
 
 def has_setup_data(page: bytes) -> bool:
-    """Tells whether the zero page has the address of a first node of setup_data."""
+    """Returns whether the zero page has the address of a first node of setup_data."""
     return any(page[SETUP_DATA : SETUP_DATA + 8])
 
 
@@ -243,7 +243,7 @@ def owned_services(machine: Machine) -> list[Span]:
 
 
 def is_rest(other: Descriptor, part: Descriptor) -> bool:
-    """Tells whether a descriptor could have a part, or be the rest of what the part was in."""
+    """Returns whether a descriptor could have a part, or be the rest of what the part was in."""
     return (
         other.kind == part.kind
         and other.first <= part.end
@@ -265,7 +265,7 @@ def log_sizes(line: str) -> list[int]:
 
 
 def has_kaslr(page: bytes) -> bool:
-    """Tells whether the decompressor chose places at random (KASLR_FLAG of the boot
+    """Returns whether the decompressor chose places at random (KASLR_FLAG of the boot
     parameters)."""
     return bool(page[LOAD_FLAGS] & KASLR_FLAG)
 

@@ -33,7 +33,7 @@ class Node(NamedTuple):
 
 
 def is_asked(line: str) -> bool:
-    """Tells whether the line asks for any area."""
+    """Returns whether the line asks for any area."""
     return cma_asked(line) is not None or hugetlb_asked(line)[0] > 0
 
 

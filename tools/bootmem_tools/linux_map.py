@@ -23,7 +23,7 @@ class Cleaned(NamedTuple):
 
 
 def is_valid(one: Descriptor) -> bool:
-    """Tells whether the kernel keeps a descriptor: it has a page, and ends below 2^64
+    """Returns whether the kernel keeps a descriptor: it has a page, and ends below 2^64
     (efi_memmap_entry_valid)."""
     return one.first < one.end <= ranges.TOP
 

@@ -416,7 +416,7 @@ def compare(given: argparse.Namespace, folder: str, words: Sequence[str], texts:
 
 
 def drops_srat(texts: Texts) -> bool:
-    """Tells whether the SRAT is used, and has a domain for which the kernel drops it whole (acpi_numa_memory_affinity_init)."""
+    """Returns whether the SRAT is used, and has a domain for which the kernel drops it whole (acpi_numa_memory_affinity_init)."""
     lines = list(read_lines("nodes", texts["nodes"]))
     used = any(line.kind == "numa" and line.fields["name"] == "used" for line in lines)
     return used and any(line.kind == "domain" and int(line.fields["domain"]) >= DOMAINS for line in lines)

@@ -73,7 +73,7 @@ def kernel_in(folder: str) -> str | None:
 
 
 def lacks_srat(folder: str) -> bool:
-    """Tells whether a folder of collect.sh has no SRAT, though its kernel shows several nodes."""
+    """Returns whether a folder of collect.sh has no SRAT, though its kernel shows several nodes."""
     has_nodes = re.search(r"^Node [1-9]", text_in(folder, "zoneinfo") or "", re.MULTILINE)
     return bool(has_nodes) and not os.path.lexists(os.path.join(folder, "srat.bin"))
 
@@ -95,7 +95,7 @@ def line_in(program: str, folder: str) -> command_line.Reading:
 
 
 def is_uefi(path: str) -> bool:
-    """Tells whether the zero page of this file is that of a machine with UEFI firmware."""
+    """Returns whether the zero page of this file is that of a machine with UEFI firmware."""
     with open(path, "rb") as file:
         return file.read(PAGE_SIZE)[SIGNATURE:SIGNATURE + 4] in (b"EL64", b"EL32")
 

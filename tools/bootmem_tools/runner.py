@@ -134,7 +134,7 @@ def run_or_stop(program: str, names: Sequence[str], words: Sequence[str],
 
 
 def is_place_assumed(names: Iterable[str], words: Iterable[str]) -> bool:
-    """Tells whether one of these reports goes by the kernel's place, and the program's words
+    """Returns whether one of these reports goes by the kernel's place, and the program's words
     don't have it."""
     has_place = any(word == "--kernel" or word.startswith("--kernel=") for word in words)
     return not has_place and not PLACELESS.issuperset(names)
