@@ -55,11 +55,11 @@ example:
 
 SERIAL = tool.Kind("serial line", 64 << 20)
 INITRD = b"boot-example\n" * ((1 << 20) // 13)
-# Marks of a zero page with their places: of a boot loader's header, of EFI's stub, and the version
-# and the loader that an entry by PVH states (init_pvh_bootparams).
+# Marks of a zero page with their places: of a boot loader's header, of EFI's stub, and, after an
+# entry by PVH, the version and the loader (init_pvh_bootparams).
 MARKS = ((b"HdrS", 0x202), (b"EL64", 0x1C0), (b"\x0c\x02" + bytes(8) + b"\xb0", 0x206))
-SETUP_DATA = 0x250  # where a zero page has the first node of setup_data
-SETUP_E820_EXT = 1  # the type of a node whose data are entries
+SETUP_DATA = 0x250  # the offset in a zero page of the address of setup_data's first node
+SETUP_E820_EXT = 1  # the type of a node whose data are entries of the map
 NODE_HEAD = 16  # bytes of a node before its data: next, type, length
 FIVE_LEVELS = 1 << 12  # CR4.LA57
 POLL = 1.0  # seconds between two looks at the serial line
@@ -78,7 +78,7 @@ class Monitor:
         self.execute("qmp_capabilities")
 
     def execute(self, name: str, **arguments: Any) -> Any:
-        """Returns what a command returns.
+        """Runs a command and returns its result.
 
         # Errors
         Trouble: it fails, or QEMU ends.
@@ -112,8 +112,8 @@ class Monitor:
 
 
 class Boot(NamedTuple):
-    """What one boot gave: the lines of the kernel's log, the place of its image, the zero page,
-    the entries of its extension, ACPI's tables by name, and whether page tables have five
+    """What was read from one boot: the lines of the kernel's log, the place of its image, the zero
+    page, the entries of its extension, ACPI's tables by name, and whether page tables have five
     levels."""
 
     log: list[str]
@@ -128,7 +128,7 @@ def log_lines(console: str) -> list[str]:
     """Returns the kernel's log from its first line up to the one that counts memory.
 
     # Errors
-    Trouble: one of the two is missing, as where the log's buffer was too short.
+    Trouble: one of the two is missing, for example because the log's buffer was too short.
     """
     plain = re.sub(r"\x1b\[[0-9;=?]*[A-Za-z]", "", console).replace("\r", "").split("\n")
     first = next((n for n, line in enumerate(plain) if "Linux version" in line), None)
@@ -143,8 +143,8 @@ def log_lines(console: str) -> list[str]:
 
 
 def zero_page_of(image: bytes) -> bytes:
-    """Returns the kernel's copy of the zero page, which its image has (boot_params): a page with
-    the mark of a boot loader, of EFI's stub, or of an entry by PVH, which leaves two copies.
+    """Returns the kernel's copy of the zero page from its image (boot_params). It is found by the
+    mark of a boot loader, of EFI's stub, or of an entry by PVH, which leaves two copies.
 
     # Errors
     Trouble: there is none, or there are different ones.
@@ -187,7 +187,7 @@ def extension_entries(monitor: Monitor, page: bytes) -> bytes:
 
 
 def acpi_tables(monitor: Monitor, log: Sequence[str]) -> Iterator[tuple[str, bytes]]:
-    """Yields SRAT and SLIT by the places that the log has."""
+    """Yields SRAT and SLIT, read from the addresses in the log."""
     for line in log:
         match = re.search(r"ACPI: (SRAT|SLIT) 0x([0-9A-F]+) ([0-9A-F]{6}) ", line)
         if match:
@@ -196,7 +196,7 @@ def acpi_tables(monitor: Monitor, log: Sequence[str]) -> Iterator[tuple[str, byt
 
 
 def read_boot(monitor: Monitor, console: str) -> Boot:
-    """Returns what the machine has when its log is there.
+    """Reads the boot from the machine's memory once its log is there.
 
     # Errors
     Trouble: the log or the memory lacks something.
@@ -212,7 +212,7 @@ def read_boot(monitor: Monitor, console: str) -> Boot:
 
 
 def run_qemu(given: argparse.Namespace, qemu: Sequence[str]) -> Boot:
-    """Boots the machine and returns what came of it.
+    """Boots the machine and returns what was read from it.
 
     # Errors
     Trouble: QEMU ends before the kernel's log is there, or the log isn't there in time.
@@ -247,7 +247,7 @@ def await_log(
     """Returns the text of the serial line once it has the line that counts memory.
 
     # Errors
-    Trouble: QEMU ends before, or the line isn't there in time.
+    Trouble: QEMU ends earlier, or the line isn't there in time.
     """
     end = time.monotonic() + seconds
     while True:
@@ -269,13 +269,13 @@ def await_log(
 
 
 def last_line(text: str) -> str:
-    """Returns what to add to a trouble: the last line of the serial line, if there is one."""
+    """Returns what to add to an error: the last line of the serial console, if there is one."""
     lines = [line for line in text.splitlines() if line.strip()]
     return f"; the serial line ends with {tool.quoted(lines[-1])}" if lines else ""
 
 
 def given_files(boot: Boot) -> dict[str, bytes]:
-    """Returns what the kernel was given, as bootmem reads it.
+    """Returns the kernel's inputs as files that bootmem reads.
 
     # Errors
     Trouble: the log has no command line.
@@ -307,7 +307,7 @@ OPTIONS = (
 
 
 def word_files(boot: Boot, files: Mapping[str, bytes]) -> dict[str, bytes]:
-    """Returns the words of bootmem, and those that bootmem-linux needs besides."""
+    """Returns the files with the words of bootmem and with those that only bootmem-linux needs."""
     words = [word for option, name in OPTIONS if name in files for word in (option, name)]
     words += ["--kernel", claims.kernel_text(boot.image)]
     words += ["--la57", "zp.bin"] if boot.has_five_levels else ["zp.bin"]
@@ -346,7 +346,7 @@ def example_files(boot: Boot) -> dict[str, bytes]:
 
 
 def crash_text(log: claims.Log) -> str:
-    """Returns the report `crash` by the log's claims; an empty text if there is no crash area."""
+    """Returns the report `crash` made from the log's claims, or an empty text without a crash area."""
     found = [claim.place for claim in log.claims if claims.is_crash(claim) and claim.place]
     return "".join(
         f"crash {what} {ranges.hex_text(first)}..{ranges.hex_text(last)}\n"
@@ -355,7 +355,7 @@ def crash_text(log: claims.Log) -> str:
 
 
 def write_folder(folder: str, files: Mapping[str, bytes]) -> None:
-    """Writes the files into the folder, and says so."""
+    """Writes the files into the folder, and prints their names and sizes."""
     os.makedirs(os.path.join(folder, "replay"), exist_ok=True)
     tool.write_files({os.path.join(folder, name): data for name, data in files.items()})
     for name in sorted(files):
@@ -363,7 +363,7 @@ def write_folder(folder: str, files: Mapping[str, bytes]) -> None:
 
 
 def read_words(words: list[str], qemu: list[str] | None) -> argparse.Namespace:
-    """Returns the tool's words; `qemu` has those behind `--`."""
+    """Returns the tool's words; `qemu` has those after `--`."""
     parser = tool.new_parser(NAME, USAGE, ABOUT, EPILOG)
     parser.add_argument("--kernel", metavar="VMLINUZ", required=True, help="the kernel")
     parser.add_argument("--output", metavar="FOLDER", required=True, help="the folder to write")

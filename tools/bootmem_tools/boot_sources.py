@@ -1,5 +1,5 @@
-"""Where a boot's inputs come from: a kernel's log, a list of entries, /sys/firmware/memmap,
-/proc/iomem, and folders that have such files, as sosreport makes them."""
+"""Reads a boot's inputs from their sources: a kernel's log, a list of entries, /sys/firmware/memmap,
+/proc/iomem, or a folder with such files, as sosreport makes it."""
 
 from __future__ import annotations
 
@@ -10,7 +10,7 @@ from typing import Callable, Optional
 from bootmem_tools import firmware_map, kernel_log, log_srat, machine, tool
 from bootmem_tools.inputs import Entry, Initrd
 
-# Files of a folder with a whole system's: logs of the kernel, those of sosreport among them.
+# The logs of the kernel in a folder with a whole system's files, including those of sosreport.
 LOGS = (
     "sos_commands/kernel/dmesg",
     "sos_commands/general/dmesg_now",
@@ -29,14 +29,14 @@ ZERO_PAGE = "sys/kernel/boot_params/data"
 RELEASES = ("proc/sys/kernel/osrelease", "sos_commands/kernel/uname_-a", "uname")
 TABLE = tool.Kind("ACPI table", 1 << 20, is_text=False)
 STAMPED = re.compile(r"\[ *\d+\.\d+\]")  # a line of dmesg
-LONG = 950  # letters of a line of a log that may be cut (LOG_LINE_MAX is 1,024 with its prefix)
+LONG = 950  # a log may have cut lines with this many letters (LOG_LINE_MAX is 1,024 with the prefix)
 UNLISTED = ("the firmware is UEFI, and the log doesn't list its descriptors, as a kernel does with efi=debug: "
             "what boot services have isn't known, and the crash area may lie lower than by these inputs")
 UNNAMED = "no initrd; --initrd names one, --no-initrd says that there is none"
 
 
 class Boot:
-    """What the sources tell of a boot. Of each kind the first source that has it counts."""
+    """The inputs of a boot that were found. For each of them, the first source that has it counts."""
 
     def __init__(self, say: Callable[[str], None]) -> None:
         self.say = say
@@ -49,15 +49,15 @@ class Boot:
         self.has_log = False
 
     def put(self, name: str, data: bytes | None) -> None:
-        """Keeps a file, if there are bytes of it and none are kept."""
+        """Keeps a file, unless it has no bytes or is kept already."""
         if data:
             self.files.setdefault(name, data)
 
     def read(self, path: str) -> None:
-        """Adds what a source tells.
+        """Adds what a source has.
 
         # Errors
-        A Trouble if it can't be read as what it is.
+        A Trouble if it can't be read, or hasn't the form of its kind.
         """
         if firmware_map.is_memmap(path):
             self.take_entries(firmware_map.entries_of_memmap(path), "the firmware's map")
@@ -67,7 +67,7 @@ class Boot:
             self.read_text(tool.read_text(path, kind=tool.LOG))
 
     def read_text(self, text: str) -> None:
-        """Adds what a log, a list of entries or a text of /proc/iomem tells."""
+        """Adds what a log, a list of entries or a text of /proc/iomem has."""
         lines = [(number, kernel_log.clean(line)) for number, line in enumerate(text.splitlines(), 1)]
         if any("BIOS-e820" in line for _, line in lines):
             self.read_log(lines)
@@ -80,12 +80,12 @@ class Boot:
             self.take_entries(kernel_log.entries_of_list(lines), "a list")
 
     def take_entries(self, entries: list[Entry], what: str) -> None:
-        """Keeps a map that tells of no initrd."""
+        """Keeps a map from a source that doesn't know the initrd."""
         if not self.entries:
             self.entries, self.lacks_initrd = entries, f"{what} tells of {UNNAMED}"
 
     def read_log(self, lines: kernel_log.Numbered) -> None:
-        """Adds what the last boot of a log tells."""
+        """Adds what the last boot of a log has."""
         lines, boots = kernel_log.last_boot(lines)
         if boots > 1:
             self.say(f"the log has {boots} boots: the last is taken")
@@ -113,13 +113,13 @@ class Boot:
         self.put("cmdline", text_of(line))
 
     def read_iomem(self, text: str) -> None:
-        """Adds what a text of /proc/iomem tells: the map, and the image's place."""
+        """Adds what a text of /proc/iomem has: the map, and the image's place."""
         self.take_entries(firmware_map.entries_of_iomem(text), "/proc/iomem")
         self.kernel = self.kernel or machine.image_place(machine.read_iomem(text))
         self.put("iomem", text.encode())
 
     def read_tree(self, folder: str) -> None:
-        """Adds what a folder with the files of a whole system tells.
+        """Adds what a folder with the files of a whole system has.
 
         # Errors
         A Trouble if it has no map.
@@ -144,7 +144,7 @@ class Boot:
             raise tool.Trouble(f"{folder}: no memory map in it: no {MEMMAP}, no {IOMEM} with addresses, and no log of a kernel's start")
 
     def read_shown(self, text: str) -> None:
-        """Adds what a folder's /proc/iomem tells, unless the kernel hid its addresses."""
+        """Adds what a folder's /proc/iomem has, unless the kernel hid its addresses."""
         try:
             self.read_iomem(text)
         except tool.Trouble as trouble:
@@ -174,7 +174,7 @@ def log_in(folder: str, name: str) -> kernel_log.Numbered | None:
 
 
 def release_in(folder: str) -> bytes | None:
-    """Returns the kernel's release by a folder's files, or None."""
+    """Returns the kernel's release from a folder's files, or None."""
     for name in RELEASES:
         words = (part_of(folder, name, tool.TEXT) or b"").split()
         if words:

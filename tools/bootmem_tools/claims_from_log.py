@@ -50,11 +50,11 @@ examples:
   claims-from-log --replay again log"""
 
 MIB = ranges.MIB
-CRASH_ALIGNS = (16 * MIB, MIB)  # without a base, and with one
+CRASH_ALIGNS = (16 * MIB, MIB)  # of a crash area without a base, and of one with a base
 EXTENSION = tool.Kind("extension", 61456, is_text=False)
 NODE_DATA = 0x2B000  # what bootmem claims for the data of a node
-SECTION_MAP = 2 * MIB  # the page structures of a section
-ROOM_NUMBER = 1 << 20  # the first number of the script's lines for rooms, above those of claims
+SECTION_MAP = 2 * MIB  # bytes of the page structures of a section
+ROOM_NUMBER = 1 << 20  # the first number of the script's lines for rooms, above the numbers of claims
 HEAD = "BIOS-provided physical RAM map:"
 # newer kernels print node and flags, too
 CALL = re.compile(r"(memblock_(?:add|reserve|phys_free|free)): \[0x([0-9a-f]+)-0x([0-9a-f]+)\](?: nid=-?\d+)?(?: flags=\w+)? (\w+)")
@@ -71,7 +71,7 @@ END = re.compile(r"Memory: \d+K/\d+K available")
 
 
 class Request(NamedTuple):
-    """What an allocation asked for. `exact` says that no other node will do."""
+    """What an allocation asked for. `exact` means that no other node will do."""
 
     size: int
     align: int
@@ -82,8 +82,8 @@ class Request(NamedTuple):
 
 
 class Claim(NamedTuple):
-    """One claim of the log: alloc, reserve or free; a request if one was logged; the place, None
-    if an alloc found none; the caller."""
+    """One claim of the log: alloc, reserve or free; its request, if one was logged; its place, or
+    None if an alloc found none; and the caller."""
 
     deed: str
     request: Request | None
@@ -96,8 +96,8 @@ Places = list[tuple[int, Optional[int]]]
 
 
 class Log:
-    """What a log has: the first and the newest dump of memblock, what was added before, and the
-    claims after the first dump."""
+    """What a log has: the first and the newest dump of memblock, the memory that was added before
+    the first one, and the claims after it."""
 
     def __init__(self) -> None:
         self.added: list[Range] = []
@@ -160,14 +160,14 @@ def read_log(lines: Iterable[str]) -> Log:
 
 
 def settle(log: Log, pending: Claim | None) -> None:
-    """Keeps a request that is still pending: no place followed, so it found none."""
+    """Keeps a request that is still pending as one that failed, since no place followed it."""
     if pending:
         log.claims.append(pending)
 
 
 def read_record(log: Log, match: re.Match[str], dumps: int) -> None:
-    """Keeps a record of a dump: those of the first, and the newest ones of memory with their
-    nodes."""
+    """Keeps a record of a dump: all of the first dump, and those of memory, with their nodes, of the
+    newest one."""
     first, last = int(match.group(2), 16), int(match.group(3), 16)
     if dumps == 1:
         (log.memory if match.group(1) == "memory" else log.reserved).append((first, last))
@@ -176,7 +176,8 @@ def read_record(log: Log, match: re.Match[str], dumps: int) -> None:
 
 
 def read_call(log: Log, match: re.Match[str], dumps: int, pending: Claim | None) -> Claim | None:
-    """Returns a call that names a range; answers the request that still waits for its place."""
+    """Keeps a call that names a range. If a request is pending, the range may be its place. Returns
+    the request that is still pending then, or None."""
     deed, first, last, caller = match.group(1), int(match.group(2), 16), int(match.group(3), 16), match.group(4)
     if caller == "memblock_double_array":
         return pending
@@ -196,7 +197,7 @@ def read_call(log: Log, match: re.Match[str], dumps: int, pending: Claim | None)
 
 
 def read_fact(log: Log, line: str) -> None:
-    """Keeps what a line says of a grown table, a node's data or the initrd."""
+    """Keeps the range of a grown table, of a node's data or of the initrd, if the line has one."""
     match = DOUBLED.search(line)
     if match:
         log.tables.append((int(match.group(1), 16), int(match.group(2), 16)))
@@ -214,8 +215,8 @@ def read_fact(log: Log, line: str) -> None:
 
 
 def image_of(log: Log) -> Range | None:
-    """Returns first and last byte of the kernel's image: what lies below its brk in one range of
-    the first dump; None if the log doesn't have it."""
+    """Returns first and last byte of the kernel's image, or None if the log doesn't show it. The
+    image is a reserved range of the first dump without brk, which is at the range's end."""
     for first, last in log.before:
         for low, high in log.reserved:
             if MIB <= low < first and last == high:
@@ -231,14 +232,14 @@ def low_alone(claim: Claim) -> bool:
 
 
 def is_crash(claim: Claim) -> bool:
-    """Returns whether a claim is for the crash area: asked for by reserve_crashkernel, which may
-    be part of setup_arch in a build."""
+    """Returns whether a claim is for the crash area. Its caller is reserve_crashkernel, or setup_arch
+    in a build that inlines it."""
     return claim.caller.startswith("reserve_crashkernel") or (
         claim.caller == "setup_arch" and claim.request is not None and claim.request.align in CRASH_ALIGNS)
 
 
 def split_claims(log: Log) -> tuple[list[Claim], list[Claim]]:
-    """Returns the claims before the crash area, and those after it that bootmem doesn't make by
+    """Returns the claims before the crash area, and the claims after it that bootmem doesn't make by
     itself."""
     claims = [claim for claim in log.claims if not low_alone(claim)]
     own = [place for place, claim in enumerate(claims) if is_crash(claim) or claim.caller.startswith("sparse_")]
@@ -273,8 +274,8 @@ def reserve_line(number: int, place: Range) -> str:
 
 
 def give_back(number: int, place: Range, live: dict[int, Range]) -> list[str]:
-    """Returns the lines that give a range back: of an allocation that began or ended with it,
-    else of a range of its own."""
+    """Returns the lines that free a range: all of an allocation in `live` or the end of one, or else
+    a range of its own."""
     for own, (first, last) in list(live.items()):
         if (first, last) == place:
             del live[own]
@@ -286,8 +287,8 @@ def give_back(number: int, place: Range, live: dict[int, Range]) -> list[str]:
 
 
 def early_script(log: Log, early: Iterable[Claim], image: Range, live: dict[int, Range]) -> list[str]:
-    """Returns the lines of early claims: a reservation of each place that was claimed before the crash area and that bootmem61 doesn't
-    claim by itself. `live` gets what they leave claimed."""
+    """Returns the lines of early claims. They reserve each place that was claimed before the crash area, except those that bootmem61
+    claims by itself. What they leave claimed is added to `live`."""
     held = joined(log.reserved)
     for first, last in [(0, MIB - 1), image, *log.tables, *log.soft] + ([log.initrd] if log.initrd else []):
         held = without(held, first, last)
@@ -297,7 +298,7 @@ def early_script(log: Log, early: Iterable[Claim], image: Range, live: dict[int,
 
 
 def claim_lines(claims: Iterable[Claim], places: bool, live: dict[int, Range]) -> list[str]:
-    """Returns the lines of a script for claims. `live` has the claims that earlier lines left, and gets those of these lines."""
+    """Returns the lines of a script for claims. `live` has what earlier lines left claimed, and what these lines leave is added."""
     lines, before = [], None
     for number, claim in enumerate(claims, max(live, default=0) + 1):
         if claim.caller != before:
@@ -316,16 +317,16 @@ def claim_lines(claims: Iterable[Claim], places: bool, live: dict[int, Range]) -
 
 
 def later_script(claims: Iterable[Claim], places: bool, live: dict[int, Range]) -> list[str]:
-    """Returns the lines of the script for the claims after the crash area; `live` has what early claims left."""
+    """Returns the lines of the script for the claims after the crash area; `live` has what early claims left claimed."""
     return ["sections"] + claim_lines(claims, places, live)
 
 
 def replay_script(log: Log, image: Range, rooms: Iterable[Range]) -> tuple[list[str], Places]:
-    """Returns the lines of a whole boot's script, and the numbers of those that have a place,
+    """Returns the lines of a whole boot's script, and the numbers of those that have a place, each
     with the place or None.
 
-    The image is cut out of the first dump's records: bootmem claims it by itself, and keeps its
-    tables there. The rooms are kept for bootmem's own claims until the kernel's are made.
+    The image is cut out of the first dump's records, since bootmem claims it by itself. The rooms
+    are claimed until the kernel's claims are made, and are then free for bootmem's own claims.
     """
     kept = list(enumerate(rooms, ROOM_NUMBER))
     lines = [f"reserve {number} {base:#x} {size - NODE_DATA:#x}" for number, (base, size) in kept]
@@ -352,11 +353,11 @@ def own_room(log: Log, node: int) -> int:
 
 
 def own_rooms(log: Log) -> dict[int, Range]:
-    """Returns memory above all other, by node: a base and a size in which all that bootmem claims
-    by itself lies, so that it moves nothing.
+    """Returns extra memory above all other, a range for each node. All that bootmem claims by itself
+    lies there, so that it moves none of the kernel's claims.
 
-    The top of each is the node's data, which is claimed before the script; the script claims the
-    rest and frees it at its end, for the sections.
+    The node's data is at the top of the range, and is claimed before the script. The script claims
+    the rest and finally frees it for the sections.
     """
     base = (max(last + 1 for _, last in log.memory) >> 30) + 2 << 30
     found: dict[int, Range] = {}
@@ -385,7 +386,7 @@ def replay_files(log: Log, image: Range) -> tuple[dict[str, bytes], list[str]]:
     if len({node for _, _, node in log.noded}) > 1:
         blocks = [(first, last + 1 - first, node) for first, last, node in log.noded]
         files["srat.bin"] = inputs.srat(blocks + [(base, size, node) for node, (base, size) in rooms.items()],
-                                        range(max(rooms) + 1))  # a domain each, so that its number is the node's
+                                        range(max(rooms) + 1))  # one entry per domain, so that domain N is node N
         words += ["--srat", "srat.bin"]
     if entries[inputs.ROOM:]:
         files["e820ext.bin"] = inputs.extension(entries[inputs.ROOM:])
@@ -409,7 +410,7 @@ def text_of(lines: Iterable[str]) -> bytes:
 
 
 def kernel_text(image: Range) -> str:
-    """Returns the image's first and last byte as bootmem reads them."""
+    """Returns the image's range in the form BASE,SIZE that bootmem reads."""
     return f"{image[0]:#x},{image[1] + 1 - image[0]:#x}"
 
 
@@ -422,7 +423,7 @@ def old_entries(path: str) -> list[inputs.Entry]:
 
 
 def extension_of(log: Log, early: Iterable[Claim], image: Range, given: argparse.Namespace) -> bytes:
-    """Returns the extension that takes the memory of early claims away, after the entries of the one that is there.
+    """Returns an extension with the entries of the old one, followed by entries that remove the memory of early claims.
 
     # Errors
     Trouble: an extension has no room for them.
@@ -482,7 +483,7 @@ def read_words(words: list[str]) -> argparse.Namespace:
 
 
 def main(words: list[str]) -> int:
-    """Writes what the words ask for."""
+    """Writes the files that the words name."""
     given = read_words(words)
     tool.refuse_over([path for path in (given.e820ext, given.claims, given.script) if path], [given.log, *([given.over] if given.over else [])])
     text = re.sub(r"\x1b\[[0-9;]*[mK]", "", tool.read_text(given.log, kind=tool.LOG))

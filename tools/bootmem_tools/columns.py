@@ -1,5 +1,5 @@
-"""The columns that bootmem-draw draws of reports: their rows with names and colours, for a
-picture, a table and a page."""
+"""Makes columns of reports for bootmem-draw: rows with names and colours, for a picture, a table or
+a page."""
 
 from __future__ import annotations
 
@@ -11,7 +11,7 @@ from bootmem_tools import ranges, reports
 DRAWN = ["map", "owners", "nodes", "zones", "blocks"]
 HEADS = {"map": "map", "owners": "owners", "nodes": "nodes", "zones": "zones", "blocks": "free blocks"}
 
-STRUCTURES = "page structures of section "  # what the owner `map N` has
+STRUCTURES = "page structures of section "  # the name that is shown for the owner `map N`
 
 # Light enough for dark text; the two nearest ones stay apart (by 10 in CIELAB) for each kind of
 # colour-blindness, too.
@@ -26,13 +26,13 @@ COLOURS = {
     "DMA": ORANGE, "DMA32": YELLOW, "Normal": BLUE,
 }
 NODES = [BLUE, YELLOW, MINT, PINK, CYAN, ORANGE, PEAR]
-# How far each further round of these goes to black, or if it is negative to white.
+# If these colours don't suffice, they are used again, this much darker or, if negative, lighter.
 SHADES = (0, 0.18, -0.5, 0.32)
 
 
 class Row(NamedTuple):
-    """A row of the picture: its bytes, its name, its colour, None for a gap, the text of its tool
-    tip, and its whole size if not all of it is drawn."""
+    """A row of the picture: its first and last byte, its name, its colour (None for a gap), the text
+    of its tool tip, and its whole size if not all of it is drawn."""
 
     first: int
     last: int
@@ -48,14 +48,14 @@ class Row(NamedTuple):
 
 
 class Column(NamedTuple):
-    """A column: its head, and its rows in lanes, each without rows that overlap."""
+    """A column: its head, and its rows in lanes. The rows of a lane don't overlap."""
 
     head: str
     lanes: list[list[Row]]
 
 
 def node_colour(node: int) -> str:
-    """Returns the colour of a node: of 28 nodes each has its own."""
+    """Returns the colour of a node. Up to 28 nodes have different colours."""
     shade = SHADES[node // len(NODES) % len(SHADES)]
     parts = bytes.fromhex(NODES[node % len(NODES)][1:])
     to = 0 if shade > 0 else 255
@@ -63,8 +63,7 @@ def node_colour(node: int) -> str:
 
 
 def colour_of(report: str, span: reports.Span) -> str:
-    """Returns the colour of a row: of a node by its number, of a block by its order, else by its
-    name."""
+    """Returns the colour of a row, by a node's number, a block's order, or else the row's name."""
     if report == "nodes":
         return node_colour(int(span.fields["node"]))
     if report == "blocks":
@@ -76,8 +75,8 @@ def colour_of(report: str, span: reports.Span) -> str:
 
 
 def joined_blocks(found: Iterable[reports.Span]) -> list[reports.Span]:
-    """Returns the blocks, in which neighbours of one order, node and zone are one span with the
-    number of blocks in its name."""
+    """Returns the blocks, with neighbours of the same order, node and zone joined to one span, whose
+    name has the number of blocks."""
     runs: list[list[reports.Span]] = []
     for span in found:
         before = runs[-1][-1] if runs else None
@@ -89,20 +88,20 @@ def joined_blocks(found: Iterable[reports.Span]) -> list[reports.Span]:
 
 
 def name_of(report: str, span: reports.Span) -> str:
-    """Returns a row's name: the report's own, except for the map of a section, which isn't the
-    firmware's map."""
+    """Returns a row's name. It is the report's own, except that the owner `map N` is called the page
+    structures of section N, since it isn't the firmware's map."""
     return re.sub(r"^map (?=\d+$)", STRUCTURES, span.name) if report == "owners" else span.name
 
 
 def tip_of(report: str, span: reports.Span) -> str:
-    """Returns the text of a tool tip: range, size, name and what else the report says."""
+    """Returns the text of a tool tip: range, size, name and the other fields of the report."""
     more = {"zones": "present {present} free {free} frames", "blocks": "node {node} zone {zone}", "map": "type {type}"}
     text = f"{ranges.range_text(span.first, span.last)}, {ranges.size_text(span.last + 1 - span.first)}: {name_of(report, span)}"
     return f"{text}, {more[report].format(**span.fields)}" if report in more else text
 
 
 def lanes_of(rows: Iterable[Row]) -> list[list[Row]]:
-    """Returns the rows, each in the first lane in which none before it lies over it."""
+    """Returns the rows in lanes. Each is put into the first lane in which it overlaps no row."""
     lanes: list[list[Row]] = []
     for row in sorted(rows):
         for lane in lanes:
@@ -115,7 +114,7 @@ def lanes_of(rows: Iterable[Row]) -> list[list[Row]]:
 
 
 def gaps_of(rows: Iterable[Row]) -> Iterator[Row]:
-    """Yields rows without a colour for the addresses between 0 and the last row that no row has."""
+    """Yields rows without a colour for the addresses from 0 to the last row that are in no row."""
     after = 0
     for row in sorted(rows):
         if row.first > after:

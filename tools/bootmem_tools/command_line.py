@@ -1,9 +1,9 @@
-"""Command lines as Linux 6.1 reads them, and lines that bootmem reads alike.
+"""Translates command lines: from how Linux 6.1 reads them to lines that bootmem reads the same way.
 
-The kernel reads words as `next_arg` splits them, but looks for `crashkernel=` in the raw line
-(`get_last_crashkernel`); it takes of a value what it understands, warns of what it doesn't and
-goes on, where bootmem refuses the line. `read_line` gives a line of which bootmem understands
-what the kernel does of the given one, and prints each change. Texts are bytes as Latin-1.
+The kernel splits words as `next_arg` does, but looks for `crashkernel=` in the raw line
+(`get_last_crashkernel`). Of a malformed value it uses the part that it understands, warns about
+the rest and goes on; bootmem refuses such a line. `read_line` returns a line that means to bootmem
+what the given one means to the kernel, and lists the changes. Texts are bytes as Latin-1.
 Nothing here is proved.
 """
 
@@ -21,13 +21,13 @@ LONGEST = 2047  # bytes of a line (COMMAND_LINE_SIZE without its end)
 ROUND = 128 << 20  # total memory is rounded up to this (parse_crashkernel_mem)
 FILE = tool.Kind("command line", 1 << 20, is_text=False)
 TOP = ranges.TOP
-LOW_LEAST = 256 << 20  # the low part without a form `S,low` (reserve_crashkernel_low)
+LOW_LEAST = 256 << 20  # the size of the low part without a form `S,low` (reserve_crashkernel_low)
 KEY = "crashkernel="
 BY_RANGES = -1  # the size of the plain form if the program picks it from ranges
 NAMES = ("mem", "memmap", "crashkernel", "numa")
 EFI = "add_efi_memmap"  # with any value, and without one (setup_add_efi_memmap)
 
-# Words that bootmem ignores though the kernel acts on them before the free lists, and on what.
+# Words that bootmem ignores though the kernel acts on them before the free lists, and their effects.
 PASSED = {
     "movable_node": "the kernel searches from below for a while (memblock_set_bottom_up)",
     "kernelcore": "memory goes to zone Movable, and mirrored memory is taken first",
@@ -50,7 +50,7 @@ class Word(NamedTuple):
 
 
 class Crash(NamedTuple):
-    """The crash area that a line asks for: size and base by the plain form, else the size by the
+    """The crash area that a line asks for: size and base of the plain form, or else the size of the
     form high; and the size of the low part."""
 
     size: int
@@ -60,8 +60,8 @@ class Crash(NamedTuple):
 
 
 class Reading(NamedTuple):
-    """A line that bootmem reads as the kernel reads the given one, what was changed, and what
-    bootmem ignores."""
+    """A line that bootmem reads as the kernel reads the given one, with notes on what was changed
+    and on what bootmem ignores."""
 
     line: str
     changes: list[str]
@@ -75,9 +75,9 @@ class Total(NamedTuple):
     bootmem: int
 
 
-# Total memory of the machine.
+# Returns the total memory of the machine.
 Totals = Callable[[], Total]
-# Where the value of each form is in the raw line, and by this place why the kernel ignores it.
+# The place in the raw line of each form's value; and, by such a place, why the kernel ignores it.
 Places = dict[str, int]
 Faults = dict[int, str]
 # A range of the plain form: its start, its end or None, and the size.
@@ -89,8 +89,8 @@ class Malformed(Exception):
 
 
 def memparse(text: str, place: int) -> tuple[int, int]:
-    """Returns the number at a place, as `memparse` takes it, and the place after it: at most one
-    suffix, wrapping at 2^64."""
+    """Returns the number at a place as the kernel's `memparse` reads it, and the place after it. The
+    number may have one suffix, and wraps at 2^64."""
     number, behind = number_at(text, place)
     suffix = text[behind:behind + 1].upper()
     if suffix and suffix in "KMGTPE":
@@ -109,8 +109,8 @@ def number_at(text: str, place: int) -> tuple[int, int]:
 
 
 def size_said(text: str, first: int, behind: int) -> str:
-    """Returns a size as bootmem reads it alike: the text itself, or its value if the text has no
-    digit or exceeds 2^64 - 1."""
+    """Returns a size that bootmem reads as the kernel does: the text itself, or its value if the
+    text has no digit or exceeds 2^64 - 1."""
     token = text[first:behind]
     value = memparse(text, first)[0]
     return token if plain_size(token) == value else size_text(value)
@@ -136,7 +136,7 @@ def size_text(value: int) -> str:
 
 
 def mem_said(value: str | None) -> str:
-    """Returns what `mem=` says to the kernel, as bootmem reads it alike (parse_memopt)."""
+    """Returns a value of `mem=` that bootmem reads as the kernel reads this one (parse_memopt)."""
     if value is None:
         raise Malformed("it has no value")
     if value == "nopentium":
@@ -148,7 +148,8 @@ def mem_said(value: str | None) -> str:
 
 
 def memmap_said(value: str | None) -> str:
-    """Returns what `memmap=` says to the kernel, map option by map option (parse_memmap_opt)."""
+    """Returns a value of `memmap=` that bootmem reads as the kernel reads this one, which may be a
+    list of map options (parse_memmap_opt)."""
     said = []
     for part in (value or "").split(","):
         try:
@@ -161,7 +162,7 @@ def memmap_said(value: str | None) -> str:
 
 
 def map_option_said(part: str) -> str:
-    """Returns what one map option says (parse_memmap_one)."""
+    """Returns one map option that bootmem reads as the kernel reads this one (parse_memmap_one)."""
     if part.startswith("exactmap"):
         return "exactmap"
     size, behind = memparse(part, 0)
@@ -198,8 +199,8 @@ def types_said(text: str) -> tuple[str, bool]:
 
 
 def numa_said(value: str | None) -> str:
-    """Returns what `numa=` says to the kernel (numa_setup); without an SRAT all memory is node
-    0, as with `off`."""
+    """Returns a value of `numa=` that bootmem reads as the kernel reads this one (numa_setup).
+    Without an SRAT all memory is node 0, as with `off`."""
     if value is None:
         raise Malformed("it has no value")
     if value.startswith(("off", "noacpi")):
@@ -213,15 +214,15 @@ SAID = {"mem": mem_said, "memmap": memmap_said, "numa": numa_said}
 
 
 def raw_line(data: bytes) -> str:
-    """Returns the line of a file, as the kernel has it: before the first zero byte, without one
-    newline at its end, uncut."""
+    """Returns the line of a file as the kernel gets it: the bytes before the first zero byte, without
+    one newline at the end. A line that is too long isn't cut."""
     line = data.split(b"\0", 1)[0]
     return (line[:-1] if line.endswith(b"\n") else line).decode("latin-1")
 
 
 def settled_line(line: str, changes: list[str]) -> str:
-    """Returns the line without what splits words in the kernel alone: a quotation that isn't
-    closed, and bytes 0xA0."""
+    """Returns the line without what splits words only in the kernel: an open quotation mark is
+    closed, and bytes 0xA0 become blanks."""
     letters: list[str] = []
     quoted = False
     for letter in line:
@@ -249,8 +250,8 @@ def words_of(line: str) -> tuple[list[Word], int]:
 
 
 def kernel_word(text: str) -> tuple[str, str | None]:
-    """Returns name and value of a word in the kernel, which takes one closing mark from a word
-    and its value together (next_arg)."""
+    """Returns name and value of a word as the kernel reads it, which removes only one closing
+    quotation mark from a word and its value together (next_arg)."""
     quoted = text.startswith('"')
     text = text[1:] if quoted else text
     place = text.find("=", 1)
@@ -263,20 +264,20 @@ def kernel_word(text: str) -> tuple[str, str | None]:
 
 
 def program_word(text: str) -> tuple[str, str | None]:
-    """Returns name and value of a word in bootmem: the word loses its quotation marks once, and
-    its value once more."""
+    """Returns name and value of a word as bootmem reads it, which removes quotation marks once from
+    the word and once more from its value."""
     name, equals, value = unquoted(text).partition("=")
     return name, unquoted(value) if equals else None
 
 
 def unquoted(text: str) -> str:
-    """Returns the text without a first quotation mark, and then without a last one."""
+    """Returns the text without a quotation mark at its beginning, and then without one at its end."""
     return text[1:].removesuffix('"') if text.startswith('"') else text
 
 
 def options_said(words: Sequence[Word], changes: list[str]) -> list[str]:
-    """Returns the text for each word except `crashkernel=`; an empty one if the word is left
-    out."""
+    """Returns the text for each word except `crashkernel=`, as bootmem should get it; it is empty if
+    the word is left out."""
     texts = []
     for number, word in enumerate(words, 1):
         name, value = program_word(word.text)
@@ -336,7 +337,7 @@ def simple(raw: str, place: int) -> tuple[int, int]:
 
 
 def size_at(raw: str, place: int) -> tuple[int, int]:
-    """Returns a size that has to be there, and the place after it."""
+    """Returns the size at a place and the place after it. Raises Malformed if there is none."""
     value, behind = memparse(raw, place)
     if behind == place:
         raise Malformed("Memory value expected")
@@ -344,15 +345,15 @@ def size_at(raw: str, place: int) -> tuple[int, int]:
 
 
 def mark_at(raw: str, place: int, mark: str) -> int:
-    """Returns the place after a mark that has to be there."""
+    """Returns the place after the mark at a place. Raises Malformed if it isn't there."""
     if raw[place:place + 1] != mark:
         raise Malformed(f"'{mark}' expected")
     return place + 1
 
 
 def ranged(raw: str, place: int, total: int) -> tuple[int, int]:
-    """Returns size and base of the plain form by ranges, for this total of bytes, rounded
-    already (parse_crashkernel_mem)."""
+    """Returns size and base of the plain form with ranges, for this number of bytes in total, which
+    is already rounded up (parse_crashkernel_mem)."""
     while True:
         start, place = size_at(raw, place)
         place, end = mark_at(raw, place, "-"), TOP
@@ -379,9 +380,9 @@ def round_up(total: int) -> int:
 
 def kernel_crash(raw: str, words: Sequence[Word], total: Totals,
                  kept: str = "") -> tuple[Crash, Places, Faults]:
-    """Returns what the raw line says of the crash area (parse_crashkernel, reserve_crashkernel);
-    for each form where its value is in the raw line; and by this place why the kernel ignores
-    it, if it does. `kept` are ranges that the program picks from as the kernel does."""
+    """Returns the crash area that the raw line asks for (parse_crashkernel, reserve_crashkernel); the
+    place of each form's value in the raw line; and, by such a place, why the kernel ignores that
+    value, if it does. `kept` are ranges that the program picks from as the kernel does."""
     plain = 0, 0
     said: dict[str, int] = {}
     places: Places = {}
@@ -407,8 +408,8 @@ def kernel_crash(raw: str, words: Sequence[Word], total: Totals,
 
 
 def is_taken_from(data: bytes, first: int, total: Callable[[str], Total]) -> bool:
-    """Returns whether the kernel takes what it asks for of the crash area from what a line has from
-    this byte on, at least in part."""
+    """Returns whether the kernel takes the crash area, at least in part, from the line's text from
+    this byte on."""
     raw = raw_line(data)[:LONGEST]
     words, _ = words_of(raw)
     others = " ".join(one.text for one in words if program_word(one.text)[0] != "crashkernel")
@@ -420,8 +421,8 @@ def is_taken_from(data: bytes, first: int, total: Callable[[str], Total]) -> boo
 
 
 def asks_for_area(text: str) -> bool:
-    """Returns whether words ask for a crash area, also by a name that is nearly crashkernel; a size
-    of 0 asks for none."""
+    """Returns whether words ask for a crash area. A name that is nearly crashkernel counts, too; a
+    size of 0 doesn't."""
     for word in words_of(text)[0]:
         value = program_word(word.text)[1] or ""
         is_zero = value[:1].isdigit() and ":" not in value and memparse(value, 0)[0] == 0
@@ -431,8 +432,8 @@ def asks_for_area(text: str) -> bool:
 
 
 def asked(size: int, base: int, high: int, low: int | None, default: int) -> Crash:
-    """Returns what is asked for: the form high counts if the plain one has no size, or may have
-    none, and a low part only if one of them has."""
+    """Returns the crash area that these sizes ask for. The form high counts only if the plain form
+    has no size or may have none, and the low part only if one of these two has a size."""
     if size == BY_RANGES:
         base = 0
     elif size:
@@ -478,9 +479,9 @@ def program_plain(value: str) -> tuple[list[Sized], int] | None:
 
 
 def kept_ranges(raw: str, words: Iterable[Word]) -> str:
-    """Returns the last plain form of the raw line if it has ranges of total memory, and bootmem61
-    takes the same form of the words; else an empty text. To bootmem61 `0-:S` is S alone, which it
-    compares with no total, so that form isn't one of these."""
+    """Returns the last plain form of the raw line if it has ranges of total memory and bootmem61
+    takes the same form from the words; else an empty text. bootmem61 reads `0-:S` as S alone,
+    without comparing it to the total, so that form doesn't count."""
     place, end = last_crash(raw, "") or (0, 0)
     text, own = raw[place:end], ""
     parsed = program_plain(text) if ":" in text else None
@@ -494,8 +495,8 @@ def kept_ranges(raw: str, words: Iterable[Word]) -> str:
 
 
 def program_crash(words: Iterable[Word], total: Totals, kept: str = "") -> Crash | None:
-    """Returns what bootmem takes the words for, or None if it refuses one; `kept` are ranges from
-    which the program picks as the kernel does."""
+    """Returns the crash area that the words ask bootmem for, or None if it refuses one of them.
+    `kept` are ranges from which the program picks as the kernel does."""
     found: list[Sized] = []
     base = 0
     said: dict[str, int] = {}
@@ -520,8 +521,8 @@ def program_crash(words: Iterable[Word], total: Totals, kept: str = "") -> Crash
 
 
 def crash_words(crash: Crash, kept: str) -> dict[str, str]:
-    """Returns the words that ask bootmem for this area, by the form whose value they have; `kept`
-    are ranges that stay."""
+    """Returns the words that ask bootmem for this area, by their form. `kept` are ranges that
+    stay."""
     found = {}
     if kept:
         found["plain"] = f"{KEY}{kept}"
@@ -536,8 +537,9 @@ def crash_words(crash: Crash, kept: str) -> dict[str, str]:
 
 def crash_said(raw: str, words: Sequence[Word], texts: list[str], total: Totals, changes: list[str],
                by_ranges: bool = False) -> list[str]:
-    """Returns the texts with `crashkernel=` as the kernel reads it, and the words that are added
-    after them. `by_ranges` says that the program picks from ranges as the kernel does."""
+    """Returns the texts of the words, in which `crashkernel=` asks bootmem for what the kernel reads,
+    and the words to add after them. `by_ranges` means that the program picks from ranges as the
+    kernel does."""
     kept = kept_ranges(raw, words) if by_ranges else ""
     wanted, places, faults = kernel_crash(raw, words, total, kept)
     if program_crash(words, total, kept) == wanted:
@@ -564,7 +566,7 @@ def crash_said(raw: str, words: Sequence[Word], texts: list[str], total: Totals,
 
 
 def why_size(text: str, total: Totals) -> str:
-    """Returns why a form by ranges has another size in the kernel; empty for the others."""
+    """Returns why a form with ranges has another size in the kernel; empty for other forms."""
     if ":" not in text:
         return ""
     have = total().kernel
@@ -579,8 +581,8 @@ def why_unused(forms: Iterable[str], places: Places, faults: Faults) -> str:
 
 
 def words_noted(words: Iterable[Word]) -> Iterator[str]:
-    """Yields what bootmem ignores though the kernel acts on it, what needs a file, and names
-    that are nearly its own."""
+    """Yields notes on words that bootmem ignores though the kernel acts on them, on words that need
+    a file, and on names that are nearly one of bootmem's."""
     for number, word in enumerate(words, 1):
         name = word.name.replace("-", "_")
         if name in PASSED:
@@ -594,8 +596,8 @@ def words_noted(words: Iterable[Word]) -> Iterator[str]:
 
 
 def near(name: str) -> str | None:
-    """Returns the one of bootmem's own names that differs from this one by case, by a sign `_`
-    or `-`, or by one letter or two; else None."""
+    """Returns the name of an option of bootmem that differs from this one only by case, by `_` in
+    place of `-`, or by one or two letters; else None."""
     plain = name.lower().replace("_", "").replace("-", "")
     for own, most in (("crashkernel", 2), ("memmap", 1), ("numa", 1), ("mem", 0)):
         if distance(plain, own) <= most:
@@ -604,8 +606,8 @@ def near(name: str) -> str | None:
 
 
 def distance(one: str, two: str) -> int:
-    """Returns how many letters are to be added, taken away, replaced or swapped with the next,
-    from one text to the other."""
+    """Returns how many letters must be added, removed, replaced or swapped with the next one to turn
+    one text into the other."""
     before: list[int] = []
     row = list(range(len(two) + 1))
     for i, letter in enumerate(one, 1):
@@ -619,10 +621,10 @@ def distance(one: str, two: str) -> int:
 
 def read_line(data: bytes, total: Callable[[str], Total] | None = None,
               by_ranges: bool = False) -> Reading:
-    """Returns a line that bootmem reads as the kernel reads the file's bytes. `total` gives
-    total memory, of type Total, for a line without `crashkernel=`; it is called where a size
-    depends on it. `by_ranges` says that the program is bootmem61, which picks from ranges as the
-    kernel does, so that well-formed ones stay."""
+    """Returns a line that bootmem reads as the kernel reads the file's bytes. `total` returns the
+    total memory for a line without `crashkernel=`; it is called only if a size depends on it.
+    `by_ranges` means that the program is bootmem61, which picks from ranges as the kernel does, so
+    that well-formed ranges stay."""
     changes: list[str] = []
     raw = raw_line(data)
     if len(raw) > LONGEST:
@@ -639,7 +641,7 @@ def read_line(data: bytes, total: Callable[[str], Total] | None = None,
 
 
 def shown(text: str) -> str:
-    """Returns a text of the line for a terminal: as UTF-8, and nothing that moves the cursor."""
+    """Returns a text of the line for a terminal: as UTF-8, without codes that move the cursor."""
     decoded = text.encode("latin-1").decode("utf-8", "replace")
     return "".join(letter if letter.isprintable() else f"\\x{ord(letter):02x}" for letter in decoded)
 
@@ -648,7 +650,7 @@ def total_for(total: Callable[[str], Total] | None, line: str) -> Total:
     """Returns total memory for a line.
 
     # Errors
-    A Trouble if nothing tells it.
+    A Trouble if it isn't known.
     """
     if total is None:
         raise tool.Trouble("crashkernel= has ranges, so its size depends on how much memory there is: "
@@ -657,9 +659,9 @@ def total_for(total: Callable[[str], Total] | None, line: str) -> Total:
 
 
 def total_by(program: str | None, words: Sequence[str], folder: str | None = None) -> Callable[[str], Total]:
-    """Returns a function from a line to total memory by the map of the named program, or of the
-    one that is found: the kernel counts the bytes of frames that are memory in part, if they are
-    beside a whole one (memblock_trim_memory)."""
+    """Returns a function that returns total memory for a line, by the map of the named program, or
+    else of the one that is found. The kernel counts the bytes of frames that are only partly memory
+    if they are next to a whole frame (memblock_trim_memory)."""
     def total(line: str) -> Total:
         """Returns total memory for this line."""
         with tempfile.TemporaryDirectory() as work:
@@ -679,12 +681,12 @@ def read_file(path: str) -> bytes:
     """Returns the bytes of a command line's file, or of standard input if the path is `-`.
 
     # Errors
-    A Trouble if there are more bytes than any boot loader hands over.
+    A Trouble if there are more bytes than any boot loader passes on.
     """
     return tool.read_bytes(path, FILE)
 
 
 def write_line(path: str, line: str) -> None:
-    """Writes a line of the bytes as they are, with a newline."""
+    """Writes the bytes of a line unchanged, with a newline."""
     with open(path, "wb") as file:
         file.write(line.encode("latin-1") + b"\n")
