@@ -48,7 +48,7 @@ examples:
   bootmem-crash ."""
 
 MIB = ranges.MIB
-ALIGN = 16 << 20  # of the area, and its least place (CRASH_ALIGN)
+ALIGN = 16 << 20  # the area's alignment, and its lowest address (CRASH_ALIGN)
 LOW = 1 << 32  # CRASH_ADDR_LOW_MAX
 HIGH = 1 << 46  # CRASH_ADDR_HIGH_MAX
 MAP = 2 << 20  # bytes of the page structures of a section
@@ -70,8 +70,8 @@ class Tried(NamedTuple):
 
 
 class Gap(NamedTuple):
-    """Memory that nobody has when the kernel looks for the area: its first and last byte, and
-    what lies below and above it."""
+    """A range of memory that is free when the kernel looks for the area: its first and last byte,
+    and what lies below and above it."""
 
     first: int
     last: int
@@ -102,11 +102,11 @@ def read_words(words: list[str]) -> argparse.Namespace:
 
 
 class Machine:
-    """A machine's boot as Linux makes it, or as the program reads it, apart from what its line asks for of the crash
-    area. Its files are there until the context ends.
+    """A machine's boot as Linux makes it, or as the program reads it, without what its line asks for as crash area. Its
+    files exist until the context ends.
 
-    `words` are the program's for the boot without a line, `early` are its early claims by their owners
-    in the reports, and `said` is what was changed or assumed."""
+    `words` are the program's words for the boot without a line. `early` are its early claims by their
+    owners in the reports. `said` are the notes on what was changed or assumed."""
 
     def __init__(self, given: argparse.Namespace) -> None:
         folder = given.machine if os.path.isdir(given.machine) else None
@@ -155,7 +155,8 @@ class Machine:
         return path if folder and os.path.exists(path) else None
 
     def split_line(self, line: str) -> None:
-        """Splits what the line asks for from the rest of it, with which the low part stays."""
+        """Separates what the line asks for as crash area from the rest of it. A form `S,low` stays in
+        the rest."""
         words, end = command_line.words_of(line)
         asking = [word.text for word in words if command_line.program_word(word.text)[0] == "crashkernel"]
         low = [text for text in asking if text.rstrip('"').endswith(",low")]
@@ -164,16 +165,15 @@ class Machine:
         self.behind = line[end:]
 
     def run(self, asked: str, names: list[str]) -> tuple[reports.Texts, str | None]:
-        """Returns the reports of these names for a line that asks for this besides, or why the
-        boot stops."""
+        """Returns the reports of these names for the line with this added, or why the boot stops."""
         with tempfile.TemporaryDirectory() as work:
             path = os.path.join(work, "line")
             command_line.write_line(path, " ".join(self.rest + ([asked] if asked else []) + [self.behind]))
             return runner.run_or_stop(self.program, names, ["--cmdline", path] + self.words)
 
     def claimed(self, texts: reports.Texts) -> list[Claim]:
-        """Returns who has what when the kernel looks for the area. An early claim is named by what it
-        is for."""
+        """Returns the claims at the time when the kernel looks for the area. The owner of an early claim
+        is what it is for."""
         return [(first, last, self.early[owner].what if owner in self.early else owner)
                 for first, last, owner in claims(texts["journal"])]
 
@@ -197,12 +197,12 @@ def without_line(words: Sequence[str]) -> list[str]:
 
 def greatest(own: Machine, texts: reports.Texts, suffix: str, end: int = HIGH,
              first: int = 0) -> tuple[int, Tried]:
-    """Returns the greatest number of MiB that fits with this suffix and begins below an end, and
-    its outcome; 0 if none does.
+    """Returns the greatest number of MiB that fits with this suffix and begins below `end`, and its
+    outcome; 0 if none fits.
 
-    The first guess is `first`, or else the greatest gap that the boot without an area has. A guess
-    that fails is lowered by what the boot lacked behind the area; one that fits is raised by steps
-    that double. So a few boots are enough, though each guess is tried.
+    The first guess is `first`, or else the greatest gap of the boot without an area. A guess that
+    fails is lowered by the memory that the boot lacked after the area's claim. One that fits is
+    raised in steps that double. Each guess is tried by a boot, but a few boots are enough.
     """
     fits, fails, best = 0, machine.memory_size(texts) // MIB + 1, Tried([], "")
     found = gaps(reports.spans("memory", texts["memory"]), claims(texts["journal"]), ALIGN, end)
@@ -221,7 +221,8 @@ def greatest(own: Machine, texts: reports.Texts, suffix: str, end: int = HIGH,
 
 
 def lacking(why: str, texts: reports.Texts) -> int:
-    """Returns how many MiB the maps took that a boot found no place for, by the section at which it stopped; 0 if it stopped elsewhere."""
+    """Returns the MiB of the page structures' maps that a boot found no place for, by the section at which it stopped; 0 if it stopped
+    elsewhere."""
     match = re.fullmatch(r"stopped: no place for map (\d+)", why)
     if match is None:
         return 0
@@ -233,8 +234,8 @@ def lacking(why: str, texts: reports.Texts) -> int:
 
 
 def claims(lines: Iterable[str]) -> list[Claim]:
-    """Returns who has what when the kernel looks for the area, ascending: the journal's claims
-    up to those of the sections."""
+    """Returns the claims at the time when the kernel looks for the area, ascending. These are the
+    journal's claims before those of the sections."""
     found: list[Claim] = []
     for item in reports.spans("journal", lines):
         if item.fields.get("owner") == "roots":
@@ -247,7 +248,7 @@ def claims(lines: Iterable[str]) -> list[Claim]:
 
 
 def parts_outside(one: Claim, item: reports.Span) -> Iterator[Claim]:
-    """Yields what a range leaves of a claim."""
+    """Yields the parts of a claim outside a range."""
     first, last, owner = one
     if first < item.first:
         yield first, min(last, item.first - 1), owner
@@ -281,12 +282,12 @@ def cut_gap(gap: Gap, low: int, high: int) -> Gap:
 
 
 def room(gap: Gap) -> int:
-    """Returns how many bytes an area has in a gap, from the first multiple of 16 MiB in it on."""
+    """Returns the bytes for an area in a gap, from the first multiple of 16 MiB on."""
     return max(0, gap.last + 1 - -(-gap.first // ALIGN) * ALIGN)
 
 
 def gap_text(own: Machine, texts: reports.Texts, low: int, high: int, where: str) -> str:
-    """Returns the greatest gap of a window, and who cuts it."""
+    """Returns a text on the greatest gap of a window, and on what bounds it."""
     memory = reports.spans("memory", texts["memory"])
     found = max(gaps(memory, own.claimed(texts), low, high), key=room, default=None)
     if found is None or room(found) == 0:
@@ -296,7 +297,7 @@ def gap_text(own: Machine, texts: reports.Texts, low: int, high: int, where: str
 
 
 def taken_text(own: Machine, texts: reports.Texts, asked: str) -> str:
-    """Returns who has bytes of the place that the line asks for."""
+    """Returns a text on who has bytes of the place that the line asks for."""
     said = command_line.program_plain(asked.split("crashkernel=")[-1])
     parts, base = said if said and len(said[0]) == 1 else ([], 0)
     owners = [owner for first, last, owner in own.claimed(texts)
@@ -308,7 +309,7 @@ def taken_text(own: Machine, texts: reports.Texts, asked: str) -> str:
 
 
 def reasons(own: Machine, asked: str, tried: Tried) -> Iterator[str]:
-    """Yields why an area doesn't fit, a line each."""
+    """Yields the reasons why an area doesn't fit, one line each."""
     if tried.why not in ("no area", "low failed", "in use"):
         yield f"the boot stops behind it: {without_stop(tried.why)}"
         return
@@ -328,13 +329,13 @@ def reasons(own: Machine, asked: str, tried: Tried) -> Iterator[str]:
 
 
 def without_stop(said: str) -> str:
-    """Returns what the program says of a stop, without the word for it."""
+    """Returns the program's line on a stop, without the word `stopped`."""
     return said[len("stopped: "):] if said.startswith("stopped: ") else said
 
 
 def outcome(own: Machine, head: str, asked: str, picked: str | None = None) -> Outcome:
-    """Returns the outcome of asking for an area, by what is picked of its ranges if the tool picks
-    it, and not the program."""
+    """Returns the outcome of asking for an area. `picked` is the size from its ranges, if the tool
+    picks it instead of the program."""
     what = asked if picked is None else picked
     tried = own.tried(what) if what else Tried([], "none")
     if tried.why == "none":
@@ -348,8 +349,8 @@ def outcome(own: Machine, head: str, asked: str, picked: str | None = None) -> O
 
 
 def picked_of(own: Machine, asked: str) -> str | None:
-    """Returns what the kernel picks of a size by ranges of total memory, an empty text if no range
-    has it; None of another size, and if the program picks as the kernel does."""
+    """Returns the size that the kernel picks from ranges of total memory, or an empty text if no
+    range fits. Returns None if the size has no ranges, or if the program picks as the kernel does."""
     if not own.is_raw or not RANGES.search(asked):
         return None
     total = command_line.total_by(own.program, own.words)(" ".join(own.rest + [asked]))
@@ -372,7 +373,7 @@ def greatest_of(own: Machine, texts: reports.Texts, form: str, suffix: str, firs
 
 
 def warnings(own: Machine, texts: reports.Texts) -> Iterator[str]:
-    """Yields what a reader should know before believing the answers, by the reports of the boot."""
+    """Yields the reasons to doubt the answers, by the reports of the boot."""
     yield from own.said
     if own.next_command:
         yield machine.NO_SRAT
@@ -387,7 +388,7 @@ def warnings(own: Machine, texts: reports.Texts) -> Iterator[str]:
 
 
 def main(words: list[str]) -> int:
-    """Prints what fits on each machine; the status says whether what is asked for does, on all of them."""
+    """Prints what fits on each machine. Returns 0 if what is asked for fits on all of them, else 1."""
     given = read_words(words)
     status = 0
     for name in given.machines:
@@ -406,7 +407,7 @@ def main(words: list[str]) -> int:
 
 
 def answer(own: Machine, given: argparse.Namespace) -> bool:
-    """Prints what fits on a machine; returns whether what is asked for does."""
+    """Prints what fits on a machine. Returns whether what is asked for fits."""
     texts, stop = own.run("", ["map", "nodes", "memory", "journal"])
     if stop:
         raise tool.Trouble(f"the boot stops without a crash area: {without_stop(stop)}")
@@ -424,7 +425,7 @@ def answer(own: Machine, given: argparse.Namespace) -> bool:
 
 
 def find(own: Machine, texts: reports.Texts, name: str, is_shown: bool) -> Found:
-    """Returns what fits on a machine; each line is printed as soon as it is found if it is to be shown."""
+    """Returns what fits on a machine. If `is_shown`, each line is printed as soon as it is found."""
     def show(lines: list[str]) -> None:
         """Prints the lines."""
         for line in lines if is_shown else []:

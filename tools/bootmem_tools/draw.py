@@ -57,8 +57,7 @@ Boots = list[tuple[str, reports.Texts]]  # each with its name
 
 
 def read_words(words: list[str]) -> tuple[argparse.Namespace, Boots]:
-    """Returns what the words ask for, and the reports to draw: those of one boot, or for a page
-    of two."""
+    """Returns the parsed words, and the reports to draw: those of one boot, or of two for a page."""
     own, program_words = tool.split_words(words)
     parser = tool.new_parser(NAME, USAGE, ABOUT, EPILOG)
     parser.add_argument("files", metavar="FILE", nargs="*", help="a text of reports; - is standard input")
@@ -113,16 +112,16 @@ def address_of(parser: tool.Parser, name: str, text: str | None, missing: int) -
 
 
 # The picture's measures, in pixels.
-LETTER = 6.7     # the width of a letter of 11 pixels in a wide font
-DIGIT = 6.1      # of a letter of 10 pixels in a font of fixed width
+LETTER = 6.7     # width of a letter of 11 pixels in a wide font
+DIGIT = 6.1      # width of a letter of 10 pixels in a font of fixed width
 PADDING = 6
-BETWEEN = 8      # between two columns
+BETWEEN = 8      # space between two columns
 MARGIN = 14
-LINE = 12        # between two addresses of the axis
-ROW = 17         # of a row with its text
-HEAD = 22        # of the heads of the columns
-AGAIN = 420      # of a row for each time that its text is written
-TALL = 1200      # of a picture that has the heads of its columns at its end, too
+LINE = 12        # least distance of two addresses of the axis
+ROW = 17         # height of a row with its text
+HEAD = 22        # height of the heads of the columns
+AGAIN = 420      # a tall row has its text about every so many pixels
+TALL = 1200      # a taller picture has the heads of its columns at the bottom, too
 
 STYLE = """text { font: 11px "DejaVu Sans", Verdana, "Segoe UI", Helvetica, Arial, sans-serif; fill: #1c1c1c }
 .address { font: 10px "DejaVu Sans Mono", Menlo, Consolas, "Liberation Mono", monospace; fill: #555 }
@@ -131,8 +130,8 @@ STYLE = """text { font: 11px "DejaVu Sans", Verdana, "Segoe UI", Helvetica, Aria
 
 
 def heights(columns: Sequence[Column]) -> dict[int, int]:
-    """Returns the place of each end of a row below the first, so that each row has room for its
-    text and each address for its own."""
+    """Returns the place of each end of a row, in pixels below the first one. Each row and each
+    address has room for its text."""
     rows = [row for column in columns for lane in column.lanes for row in lane]
     by_end: dict[int, list[Row]] = collections.defaultdict(list)
     for row in rows:
@@ -184,8 +183,8 @@ def height_of(columns: Sequence[Column]) -> int:
 
 
 def draw_columns(columns: Sequence[Column], place: Mapping[int, int], x: int, top: int, end: int) -> tuple[list[str], int]:
-    """Returns the lines of the columns from x on, and where the last one ends; each has its head above, and below the picture's
-    end unless it is 0."""
+    """Returns the lines of the columns from x on, and where the last column ends. Each has its head above it, and also below `end`
+    unless that is 0."""
     body: list[str] = []
     for column in columns:
         body += [text_at(x + PADDING, y, column.head, "head") for y in (top - 8, end) if y]
@@ -226,8 +225,8 @@ def cell_of(row: Row, first: int) -> str:
 
 
 def table_lines(lanes: Sequence[tuple[str, list[Row]]]) -> list[str]:
-    """Returns the lines of a table of lanes, each with its column's head: one for each address
-    at which something begins or ends."""
+    """Returns the lines of a table of lanes, each with its column's head. There is one line for each
+    address at which a row begins or ends."""
     before = [""] + [head for head, _ in lanes]
     lines = [["address"] + ["" if head == left else head for (head, _), left in zip(lanes, before)]]
     after = 0
@@ -241,8 +240,8 @@ def table_lines(lanes: Sequence[tuple[str, list[Row]]]) -> list[str]:
 
 
 def table(columns: Sequence[Column], title: str | None, width: int) -> str:
-    """Returns the text of the tables for a terminal of this width: as few as have room for all
-    lanes; a line that still has none is cut."""
+    """Returns the text of the tables for a terminal of this width. It makes as few tables as have
+    room for all lanes; a line that still doesn't fit is cut."""
     groups: list[list[tuple[str, list[Row]]]] = []
     for lane in [(column.head, lane) for column in columns for lane in column.lanes if lane]:
         if groups and max(map(len, table_lines(groups[-1] + [lane]))) <= width:

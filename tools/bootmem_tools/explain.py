@@ -1,8 +1,8 @@
-"""Why bootmem, bootmem61 or bootaudit refused its words, couldn't read a file, or refused a table by its checksum: one line,
-which the installed commands print after the program's own.
+"""Prints one line on why bootmem, bootmem61 or bootaudit refused its words, couldn't read a file, or refused a table with a wrong
+checksum. The installed commands print it after the program's own line.
 
-It is called as `explain PROGRAM STATUS WORDS`, and reads the words as the program's grammar has them. It never decides anything: the
-program has ended with the status before it starts.
+It is called as `explain PROGRAM STATUS WORDS`, and reads the words by the program's grammar. It decides nothing: the program has
+ended with the status before.
 """
 
 from __future__ import annotations
@@ -17,34 +17,34 @@ from bootmem_tools.words import AUDIT_OPTIONS, COMMANDS, Command
 HELP = ("--help", "-h", "--version")
 FRAME = ranges.FRAME
 MIB = ranges.MIB
-LEAST_PLACE = MIB  # of the kernel's image
+LEAST_PLACE = MIB  # the lowest address of the kernel's image
 LEAST_SIZE = 2 * FRAME
 MOST_MIRRORS = 64
-ENTRIES = range(2, 3001)  # of --make
+ENTRIES = range(2, 3001)  # the values of --make
 USAGE, UNREADABLE, MALFORMED = 2, 3, 5
-TABLES = ("srat", "slit")  # inputs with a checksum, the byte at 9, by which all bytes sum to 0 modulo 256
+TABLES = ("srat", "slit")  # inputs with a checksum: byte 9 makes the sum of all bytes 0 modulo 256
 CHECKSUM, LONGEST_TABLE = 9, 1 << 20
 
 
 class Refused(Exception):
-    """Which word is wrong, and what would be right."""
+    """An error that says which word is wrong, and what would be right."""
 
 
 class Words(NamedTuple):
-    """The words as the grammar splits them: the value of each option (empty for a flag), and the zero page or None."""
+    """The words, parsed: the value of each option (empty for a flag), and the zero page or None."""
 
     values: dict[str, str]
     page: str | None
 
 
 def nearest(word: str, known: Iterable[str]) -> str | None:
-    """Returns the known word that differs from this one by at most two letters, and less than by half of them; else None."""
+    """Returns the known word that differs from this one by at most two letters and by less than half of them; else None."""
     found = min(((command_line.distance(word.lower(), one), one) for one in known), default=(len(word), ""))
     return found[1] if found[0] <= 2 and found[0] * 2 < max(len(word), 2) else None
 
 
 def suggestion(word: str, known: Sequence[str], front: str = "") -> str:
-    """Returns the known word that may be meant, or all of them."""
+    """Returns a text that suggests the known word that may be meant, or lists all of them."""
     near = nearest(word, known)
     return f"did you mean {front}{near}?" if near else f"one of {', '.join(front + one for one in known)}"
 
@@ -53,7 +53,7 @@ def split(command: Command, words: Sequence[str]) -> Words:
     """Splits the words of a program.
 
     # Errors
-    Refused for the first word that the grammar has no place for.
+    Refused for the first word that the grammar doesn't allow there.
     """
     values: dict[str, str] = {}
     page: str | None = None
@@ -76,14 +76,14 @@ def split(command: Command, words: Sequence[str]) -> Words:
 
 
 def only_page(page: str | None, name: str) -> str:
-    """Returns the zero page's name, which mustn't have come before."""
+    """Returns the zero page's name. Raises Refused if there was one before."""
     if page is not None:
         raise Refused(f"{name}: a second zero page, after {page}; only one may be named")
     return name
 
 
 def read_option(command: Command, word: str, rest: list[str]) -> tuple[str, str]:
-    """Returns the name and the value of an option, and takes the value out of the rest if it is a word of its own."""
+    """Returns the name and the value of an option. If the value is a word of its own, it is removed from the rest."""
     if word in HELP:
         raise Refused(f"{word}: must be the first word")
     if not word.startswith("--"):
@@ -112,10 +112,10 @@ def other_command(command: Command, name: str) -> str:
 
 
 def judge_value(command: Command, name: str, value: str, words: Sequence[str]) -> None:
-    """Judges the value of an option.
+    """Checks the value of an option.
 
     # Errors
-    Refused if the program refuses it.
+    Refused if the program refuses the value.
     """
     why = None
     if name == "report":
@@ -152,7 +152,7 @@ def report_fault(command: Command, value: str) -> str | None:
 
 
 def size_fault(text: str) -> str | None:
-    """Returns why a text is no size, or None."""
+    """Returns why a text isn't a size, or None if it is."""
     if command_line.plain_size(text) is not None:
         return None
     if not text:
@@ -165,7 +165,7 @@ def size_fault(text: str) -> str | None:
 
 
 def range_fault(text: str) -> str | None:
-    """Returns why a text is no range BASE,SIZE, or None."""
+    """Returns why a text isn't a range BASE,SIZE, or None if it is."""
     base, mark, size = text.partition(",")
     if not mark:
         return f"{text or 'an empty text'} has no size after it: BASE,SIZE, as 16M,32M"
@@ -181,7 +181,7 @@ def value_of(text: str) -> int:
 
 
 def kernel_fault(text: str, width: int) -> str | None:
-    """Returns why no image may lie in a range BASE,SIZE, for addresses of so many bits, or None."""
+    """Returns why the kernel's image can't lie in a range BASE,SIZE, for addresses of `width` bits, or None."""
     why = range_fault(text)
     if why:
         return why
@@ -229,7 +229,7 @@ def audit_fault(words: Sequence[str]) -> str:
 
 
 def files_of(program: str, words: Sequence[str]) -> list[str]:
-    """Returns the names of the files that the program reads, in its order."""
+    """Returns the names of the files that the program reads, in the order in which it reads them."""
     if program == "bootaudit":
         return [word for word in words if word != "--la57"]
     command = COMMANDS[program]
@@ -242,7 +242,7 @@ def files_of(program: str, words: Sequence[str]) -> list[str]:
 
 
 def unreadable(path: str) -> str | None:
-    """Returns why a file can't be read, or None if it can. Only a plain file is opened, since reading others may take something away."""
+    """Returns why a file can't be read, or None if it can. Only a plain file is opened, since reading from a pipe would use up its data."""
     try:
         mode = os.stat(path).st_mode
         if stat.S_ISDIR(mode):
@@ -262,7 +262,7 @@ def unreadable(path: str) -> str | None:
 
 
 def missing(path: str) -> str:
-    """Returns which part of a path isn't there."""
+    """Returns a text on which part of a path doesn't exist."""
     if not path:
         return "the name is empty"
     if os.path.islink(path):
@@ -272,8 +272,8 @@ def missing(path: str) -> str:
 
 
 def checksum_fault(command: Command, words: Sequence[str]) -> str | None:
-    """Returns what the checksum of a table should be, or None if no table of the words has a wrong one. Only plain files of the length
-    that they state are read."""
+    """Returns a text on what the checksum of a table should be, or None if no table of the words has a wrong one. Only plain files of
+    the length that they state are read."""
     try:
         values = split(command, words).values
     except Refused:
@@ -293,7 +293,7 @@ def checksum_fault(command: Command, words: Sequence[str]) -> str | None:
 
 
 def explain(program: str, status: int, words: Sequence[str]) -> str | None:
-    """Returns why the program ended with this status, or None if the words don't tell."""
+    """Returns why the program ended with this status, or None if the words don't show it."""
     if status == USAGE:
         for number, word in enumerate(words, 1):
             if any("\udc80" <= letter <= "\udcff" for letter in word):

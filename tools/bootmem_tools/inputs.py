@@ -1,7 +1,7 @@
-"""Inputs of bootmem as bytes: zero page, E820 extension, SRAT, SLIT and EFI memory map, for
-tests of a virtual machine monitor, too.
+"""Makes inputs of bootmem as bytes: zero page, E820 extension, SRAT, SLIT and EFI memory map. These
+also serve tests of a virtual machine monitor.
 
-The forms are those of docs/FORMATS.md. Addresses and sizes are in bytes.
+docs/FORMATS.md describes the forms. Addresses and sizes are in bytes.
 """
 
 from __future__ import annotations
@@ -19,22 +19,22 @@ Initrd = tuple[int, int]
 PAGE_SIZE = 4096
 ROOM = 128  # entries of a zero page
 EXTENSION_ROOM = (61456 - 16) // 20  # entries of an extension
-# Places in the zero page: the number of entries and the first of them; the loader, and the initrd's
-# address and size, of which the upper halves have places of their own.
+# Offsets in the zero page: the number of entries and the first entry; the loader; the initrd's
+# address and size, whose upper halves are elsewhere.
 COUNT, ENTRIES = 0x1E8, 0x2D0
 LOADER_TYPE, RAMDISK, HIGH_RAMDISK = 0x210, 0x218, 0x0C0
 LOADER = 0xFF  # a boot loader without a number of its own
-STRIDE = 48  # bytes of a descriptor that x86 firmware hands over
+STRIDE = 48  # bytes of a descriptor in x86 firmware's map
 
 
 def entry_bytes(entries: Iterable[Entry]) -> bytes:
-    """Returns these entries as the zero page and the extension hold them (struct
+    """Returns these entries in the form that zero page and extension have (struct
     boot_e820_entry)."""
     return b"".join(struct.pack("<QQI", *entry) for entry in entries)
 
 
 def zero_page(entries: Sequence[Entry], initrd: Initrd | None = None) -> bytes:
-    """Returns a zero page with these entries, 128 at most, and this initrd (struct boot_params).
+    """Returns a zero page with these entries, at most 128, and this initrd (struct boot_params).
 
     # Errors
     A ValueError if there are more entries than a zero page has room for.
@@ -56,7 +56,7 @@ def zero_page(entries: Sequence[Entry], initrd: Initrd | None = None) -> bytes:
 
 
 def extension(entries: Sequence[Entry]) -> bytes:
-    """Returns an extension with these entries, 3,072 at most (struct setup_data of type
+    """Returns an extension with these entries, at most 3,072 (struct setup_data of type
     SETUP_E820_EXT).
 
     # Errors
@@ -68,18 +68,18 @@ def extension(entries: Sequence[Entry]) -> bytes:
 
 
 def entries_of(data: bytes) -> list[Entry]:
-    """Returns the entries of whole 20 bytes each, as the zero page and the extension hold them."""
+    """Returns the entries in bytes of a zero page or an extension, of 20 bytes each."""
     return [(base, size, kind) for base, size, kind in struct.iter_unpack("<QQI", data)]
 
 
 def map_files(entries: Sequence[Entry], initrd: Initrd | None = None) -> tuple[bytes, bytes | None]:
-    """Returns a zero page, and an extension with the entries for which it has no room, or None
-    if there are none."""
+    """Returns a zero page, and an extension with the entries for which the zero page has no room, or
+    None if it has room for all."""
     return zero_page(entries[:ROOM], initrd), extension(entries[ROOM:]) if entries[ROOM:] else None
 
 
 def sealed(table: bytes) -> bytes:
-    """Returns an ACPI table with the checksum byte that lets its bytes sum to 0."""
+    """Returns an ACPI table with a checksum byte that makes the sum of its bytes 0."""
     cleared = table[:9] + b"\0" + table[10:]
     return table[:9] + bytes([-sum(cleared) % 256]) + table[10:]
 

@@ -1,9 +1,9 @@
-"""The free lists and memblock's tables that a debugger read from a kernel, and their comparison
+"""Reads the free lists and memblock's tables that a debugger got from a kernel, and compares them
 with bootmem's reports.
 
-The module free_lists writes a folder of such files, `read_kernel` reads its `kernel.txt`, and
+The module free_lists writes a folder with the file `kernel.txt`. `read_kernel` reads this file, and
 `compare_boot` and `compare_machine` compare it with what the program prints. docs/FORMATS.md
-has the form. Addresses are in bytes, zones in frames. Nothing here is proved."""
+describes its form. Addresses are in bytes, zones in frames. Nothing here is proved."""
 
 import os
 import re
@@ -14,7 +14,7 @@ from typing import Callable, Dict, Iterable, List, NamedTuple, Optional, Sequenc
 from bootmem_tools import ranges, reports, runner, tool
 
 FRAME = ranges.FRAME
-END = ranges.TOP + 1  # of all addresses
+END = ranges.TOP + 1  # one past the highest address
 BORDERS = {
     "DMA": (0, 1 << 12),
     "DMA32": (1 << 12, 1 << 20),
@@ -49,8 +49,8 @@ class Record(NamedTuple):
 
 
 class Table(NamedTuple):
-    """One of memblock's tables: its address, or None while it is in the kernel's own data; for
-    how many records it has room."""
+    """One of memblock's tables: its address, or None while it is in the kernel's own data; the number
+    of records that it has room for; and its records."""
 
     place: Optional[int]
     room: int
@@ -79,17 +79,17 @@ class Block(NamedTuple):
 
 
 class Listed(NamedTuple):
-    """A block in a list of the kernel: lists of one order differ by migrate type."""
+    """A block in a list of the kernel. Lists of the same order differ by migrate type."""
 
     kind: str
     block: Block
 
 
 class Kernel(NamedTuple):
-    """What a kernel has at handover. Its log says what each line of the script answers; the
-    rest was read by a debugger. Blocks come list by list, each from its head. `deferred` has,
-    of each node whose pages are set up later, the first byte of these, and `late` their blocks
-    when that has been done."""
+    """The state of a kernel at handover. The answers to the lines of the script come from its log;
+    the rest was read by a debugger. Blocks come list by list, each from its head. `deferred` has the
+    first byte that is set up later, for each node that has such pages, and `late` has the blocks of
+    these pages after that."""
 
     version: str
     answers: List[str]
@@ -102,9 +102,9 @@ class Kernel(NamedTuple):
 
 
 class Result(NamedTuple):
-    """What a comparison found: how many things both sides have, how many of the kernel's differ
-    as a row of KERNEL.md says, and what differs without such a row: the program's and the
-    kernel's."""
+    """The result of a comparison: how many things both sides have, how many of the kernel's differ
+    as a row of KERNEL.md says, and what differs without such a row, on the program's and on the
+    kernel's side."""
 
     subject: str
     equal: int
@@ -169,7 +169,7 @@ def read_blocks(lines: Iterable[str]) -> List[Listed]:
 
 
 def parse_kernel(text: str) -> Kernel:
-    """What a `kernel.txt` with this text says.
+    """The kernel that a `kernel.txt` with this text describes.
 
     # Errors
     Trouble: a section is missing, or a line isn't of its form."""
@@ -202,7 +202,7 @@ def parse_kernel(text: str) -> Kernel:
 
 
 def read_kernel(folder: str) -> Kernel:
-    """What `kernel.txt` of the folder says."""
+    """The kernel that `kernel.txt` of the folder describes."""
     return parse_kernel(tool.read_text(os.path.join(folder, "kernel.txt")))
 
 
@@ -236,8 +236,8 @@ def block_lines(blocks: Sequence[Listed]) -> List[str]:
 
 
 def run_end(blocks: Sequence[Listed], start: int) -> int:
-    """The index past the last block of the run that begins at `start`: one list, and addresses
-    that rise by one step."""
+    """The index past the last block of the run that begins at `start`. A run is in one list, and its
+    addresses rise by one step."""
     end = start + 1
     step = 0
     while end < len(blocks):
@@ -281,8 +281,7 @@ def kernel_text(kernel: Kernel) -> str:
 
 
 def top_of(kernel: Kernel) -> int:
-    """One past the last byte that either table of the kernel names: what lies above is the
-    program's alone."""
+    """The byte past the last one in either table of the kernel. Only the program has memory above."""
     return 1 + max(
         record.last for table in (kernel.memory, kernel.reserved) for record in table.records
     )
@@ -329,7 +328,7 @@ def printed_blocks(lines: Iterable[str]) -> List[Block]:
 
 
 def printed_zones(lines: Iterable[str]) -> List[Zone]:
-    """The zones of the report `zones`; what it has as free is what the kernel calls managed."""
+    """The zones of the report `zones`. The kernel calls managed what the report calls free."""
     keys = ("start_frame", "end_frame", "present", "free")
     return [
         Zone(
@@ -349,7 +348,7 @@ def printed_records(name: str, lines: Iterable[str], top: int) -> List[Tuple[int
 
 
 def printed_heads(lines: Iterable[str]) -> Dict[str, Tuple[int, int, int]]:
-    """Place, room and number of records of each table, by the report `tables`."""
+    """Place, room and number of records of each table, from the report `tables`."""
     return {
         span.fields["table"]: (span.first, int(span.fields["room"]), int(span.fields["records"]))
         for span in reports.spans("tables", list(lines))
@@ -357,8 +356,8 @@ def printed_heads(lines: Iterable[str]) -> Dict[str, Tuple[int, int, int]]:
 
 
 def compare_blocks(kernel: Kernel, printed: Sequence[Block]) -> Result:
-    """The comparison of the blocks at handover: all, or, of a node whose pages are set up
-    later, those below its first deferred byte."""
+    """The comparison of the blocks at handover. Of a node whose pages are partly set up later, only
+    the blocks below its first deferred byte are compared."""
     top = top_of(kernel)
 
     def is_early(block: Block) -> bool:
@@ -373,9 +372,9 @@ def compare_blocks(kernel: Kernel, printed: Sequence[Block]) -> Result:
 
 
 def compare_late(kernel: Kernel, printed: Sequence[Block]) -> Result:
-    """The comparison of the blocks of deferred pages. Some frames were in use when they were
-    read: a block of the program that has one isn't compared (`known`), and what the kernel's
-    lists have inside of it isn't either."""
+    """The comparison of the blocks of deferred pages. Some frames were in use when the lists were
+    read. A block of the program with such a frame isn't compared (`known`), and neither are the
+    kernel's blocks inside of it."""
     top = top_of(kernel)
     late = [listed.block for listed in kernel.late]
     free = joined(span_of(block) for block in late)
@@ -401,7 +400,7 @@ def is_within(block: Block, ranges: Sequence[Tuple[int, int]]) -> bool:
 
 
 def compare_order(kernel: Kernel) -> Result:
-    """The check that each list ascends from its head; counted are lists of two or more blocks."""
+    """The check that each list ascends from its head. Only lists of two or more blocks count."""
     lists: Dict[Tuple[int, str, int, str], List[int]] = {}
     for kind, block in kernel.blocks:
         lists.setdefault((block.node, block.zone, block.order, kind), []).append(block.place)
@@ -417,9 +416,9 @@ def compare_order(kernel: Kernel) -> Result:
 def compare_zones(
     kernel: Kernel, printed: Iterable[Zone], nodes: Sequence[Tuple[int, int, int]]
 ) -> Result:
-    """The comparison of present and managed frames; `nodes` has the program's memory above the
-    kernel's, each a first and last byte and a node, which comes off. With deferred pages the
-    kernel's managed frames are those of a part."""
+    """The comparison of present and managed frames. `nodes` has the program's memory above the
+    kernel's, each a first and last byte and a node; it is subtracted. With deferred pages the
+    kernel's managed frames are only those of a part, and aren't compared."""
     top = top_of(kernel)
     extra: Dict[Tuple[int, str], int] = {}
     for first, last, node in nodes:
@@ -446,9 +445,9 @@ def compare_zones(
 
 
 def compare_records(name: str, kernel: Kernel, lines: Iterable[str]) -> Result:
-    """The comparison of a table's records by their first and last byte. Records of the kernel
-    that touch have different nodes; such a border lies inside a record of the program, whose
-    reserved table has no nodes."""
+    """The comparison of a table's records by their first and last byte. If records of the kernel
+    touch, they have different nodes. The border between them lies inside one record of the program,
+    whose reserved table has no nodes."""
     table = kernel.reserved if name == "reserved" else kernel.memory
     ours = set(printed_records(name, lines, top_of(kernel)))
     alike = [
@@ -477,7 +476,7 @@ def compare_records(name: str, kernel: Kernel, lines: Iterable[str]) -> Result:
 
 
 def compare_head(name: str, table: Table, head: Tuple[int, int, int]) -> Result:
-    """The comparison of a table's room and, where the kernel's has left its data, of its place."""
+    """The comparison of a table's room and, if the table has left the kernel's data, of its place."""
     place, room, _ = head
     ours, theirs = [f"{name} room {room}"], [f"{name} room {table.room}"]
     if table.place is not None:
@@ -514,9 +513,9 @@ def record_text(record: Record) -> str:
 def compare_machine(
     kernel: Kernel, told: Dict[str, List[str]], records: Sequence[Record]
 ) -> List[Result]:
-    """The comparison of a kernel with the reports MACHINE_REPORTS of the program's boot of the
-    same machine's inputs, and with the records of its memory table as their bytes are: node and
-    flags, too."""
+    """The comparison of a kernel with the reports MACHINE_REPORTS of the program's boot from the same
+    machine's inputs, and with all fields of the records in the program's memory table, including
+    node and flags."""
     head = printed_heads(told["tables"])["memory"]
     zones = {(zone.node, zone.name): zone for zone in printed_zones(told["zones"])}
     present = matched(
@@ -537,9 +536,9 @@ def compare_machine(
 
 
 def compare_spans(theirs: Sequence[Zone], ours: Dict[Tuple[int, str], Zone]) -> Result:
-    """The comparison of where zones start and end. The kernel's are the span of the node, cut
-    at the borders of zones (`known`); the program's go from the first frame in the zone to the
-    last."""
+    """The comparison of where zones start and end. A zone of the kernel is its node's span, cut at
+    the borders of zones (`known`). A zone of the program goes from the first to the last frame in
+    it."""
     equal, known, odd = 0, 0, []
     for zone in theirs:
         mine = ours.get((zone.node, zone.name))
