@@ -1,8 +1,8 @@
-"""What a kernel's log tells of its boot: the firmware's map, the descriptors of UEFI firmware, the
-initrd, the command line, the kernel's image and its release; and lists of entries.
+"""Reads a boot's inputs from a kernel's log: the firmware's map, the descriptors of UEFI firmware,
+the initrd, the command line, the kernel's image and its release. Reads lists of entries, too.
 
-It also has what a log says of memory, as the texts of bootmem's reports. No rule of bootmem
-computes them: a text has the lines that the log has, with the edits that it names."""
+It also turns the log's lines on memory into texts of bootmem's reports. No rule of bootmem computes
+these: a text has what the log's lines have, with the edits that the log names."""
 
 from __future__ import annotations
 
@@ -31,7 +31,7 @@ EFI_TYPES = ("Reserved", "Loader Code", "Loader Data", "Boot Code", "Boot Data",
              "Unusable", "ACPI Reclaim", "ACPI Mem NVS", "MMIO", "MMIO Port", "PAL Code", "Persistent")
 ATTRIBUTES = {"UC": 0x1, "WC": 0x2, "WT": 0x4, "WB": 0x8, "UCE": 0x10, "WP": 0x1000, "RP": 0x2000, "XP": 0x4000, "NV": 0x8000,
               "MR": 0x10000, "RO": 0x20000, "SP": 0x40000, "CC": 0x80000, "RUN": 1 << 63}
-# The heads of the maps that a kernel prints, with what their lines begin with.
+# The heads of the maps that a kernel prints, with the beginning of their lines.
 MAPS = (
     (HEAD, "BIOS-e820:"),
     ("extended physical RAM map:", "reserve setup_data:"),
@@ -50,8 +50,8 @@ Run = tuple[int, int, int]
 
 
 def type_of(text: str) -> int | None:
-    """Returns the number of a type by the name that the kernel prints, or by a number; None if
-    it is neither."""
+    """Returns the number of a type from the name that the kernel prints, or from a number; None if
+    the text is neither."""
     match = re.fullmatch(r"(?:persistent \(type (\d+)\)|type (\d+)|(0[xX][0-9a-fA-F]+|\d+))", text)
     if match is None:
         return TYPES.get(text)
@@ -66,7 +66,7 @@ def clean(line: str) -> str:
 
 
 def entry_of(number: int, base: int, size: int, name: str) -> Entry:
-    """Returns an entry of line `number`, checked as the program checks it."""
+    """Returns the entry of line `number`, with the checks that the program makes."""
     kind = type_of(name)
     if kind is None:
         raise tool.Trouble(f"line {number}: {tool.quoted(name)} is no type that is known")
@@ -76,8 +76,8 @@ def entry_of(number: int, base: int, size: int, name: str) -> Entry:
 
 
 def last_boot(lines: Numbered) -> tuple[Numbered, int]:
-    """Returns the lines of the last boot of a log, and how many boots it has: those from the line
-    `Linux version` or `Command line:` before its last line `BIOS-provided physical RAM map:` on."""
+    """Returns the lines of the last boot of a log, and the number of its boots. The last boot begins
+    at the line `Linux version` or `Command line:` before the last `BIOS-provided physical RAM map:`."""
     heads = [place for place, (_, line) in enumerate(lines) if HEAD in line]
     if not heads:
         return lines, 1
@@ -88,8 +88,8 @@ def last_boot(lines: Numbered) -> tuple[Numbered, int]:
 
 
 def entries_of_log(lines: Numbered) -> list[Entry]:
-    """Returns the entries of a log's lines `BIOS-e820`, or of the last table of its lines
-    `extended` if it has some."""
+    """Returns the entries of a log's lines `BIOS-e820`, or, if it has lines `extended`, of the last
+    table of these."""
     found: dict[str, list[Entry]] = {"BIOS-e820": [], "extended": []}
     headed = any(HEAD in line for _, line in lines)
     for number, line in lines:
@@ -103,14 +103,14 @@ def entries_of_log(lines: Numbered) -> list[Entry]:
             if table == "BIOS-e820" and not headed:
                 raise tool.Trouble(f"line {number}: the addresses don't ascend: of a log with several boots and without "
                                       f"their lines '{HEAD}', hand over one")
-            if table == "extended":  # printed once for each node of the extension, each time the whole map
+            if table == "extended":  # the kernel prints the whole map once for each node of the extension
                 found[table] = []
         found[table].append(entry_of(number, first, last + 1 - first, match.group(4)))
     return found["extended"] or found["BIOS-e820"]
 
 
 def entries_of_list(lines: Numbered) -> list[Entry]:
-    """Returns the entries of lines `base size type`; empty lines and those that begin with # are
+    """Returns the entries of lines `base size type`. Empty lines and lines that begin with # are
     ignored."""
     entries = []
     for number, line in lines:
@@ -125,8 +125,8 @@ def entries_of_list(lines: Numbered) -> list[Entry]:
 
 
 def attributes_of(number: int, names: Sequence[str]) -> int:
-    """Returns the attributes of a descriptor by the names that the kernel prints, or by
-    `attr=0x..` if it has no name for one of them."""
+    """Returns the attributes of a descriptor from the names that the kernel prints, or from
+    `attr=0x..`, which it prints if it has no name for one of them."""
     if len(names) == 1 and names[0].startswith("attr=0x"):
         return int(names[0][7:], 16)
     unknown = [name for name in names if name and name not in ATTRIBUTES]
@@ -136,7 +136,7 @@ def attributes_of(number: int, names: Sequence[str]) -> int:
 
 
 def efi_type(number: int, name: str) -> int:
-    """Returns the number of a descriptor's type by the name that the kernel prints, or by
+    """Returns the number of a descriptor's type from the name that the kernel prints, or from
     `type=N`."""
     match = re.fullmatch(r"type=(\d+)", name)
     if match:
@@ -147,8 +147,8 @@ def efi_type(number: int, name: str) -> int:
 
 
 def descriptors_of_log(lines: Numbered) -> list[Descriptor]:
-    """Returns the descriptors of the first list `efi: mem00 ..` of a log: type, address, pages
-    and attributes of each; none if the kernel didn't list them."""
+    """Returns the descriptors of a log's first list `efi: mem00 ..`, each as type, address, pages and
+    attributes. There are none if the kernel didn't list them."""
     found: list[Descriptor] = []
     for number, line in lines:
         match = re.search(DESCRIPTOR, line)
@@ -160,14 +160,14 @@ def descriptors_of_log(lines: Numbered) -> list[Descriptor]:
         if index != len(found):
             raise tool.Trouble(f"line {number}: a descriptor is missing before mem{match.group(1)}")
         name, *names = (part.strip() for part in match.group(2).split("|"))
-        pages = (last + 1 - first) % (ranges.TOP + 1) // ranges.FRAME  # one of no pages ends a byte before it begins
+        pages = (last + 1 - first) % (ranges.TOP + 1) // ranges.FRAME  # without pages, the last byte is below the first
         found.append((efi_type(number, name), first, pages, attributes_of(number, names)))
     return found
 
 
 def initrd_of_log(lines: Numbered) -> Initrd | None:
-    """Returns base and size of the initrd by the log's last line RAMDISK, or None. A line
-    `Allocated new RAMDISK` has the place to which the kernel moved it (relocate_initrd)."""
+    """Returns base and size of the initrd from the log's last line RAMDISK, or None. This excludes
+    `Allocated new RAMDISK`, the place to which the kernel moved it (relocate_initrd)."""
     found = None
     for _, line in lines:
         match = claims.RAMDISK.search(line)
@@ -183,7 +183,7 @@ def line_of_log(lines: Numbered) -> str | None:
 
 
 def is_uefi(lines: Numbered) -> bool:
-    """Returns whether a log is that of a boot with UEFI firmware (efi_init, efi_memblock_x86_reserve_range)."""
+    """Returns whether a log comes from a boot with UEFI firmware (efi_init, efi_memblock_x86_reserve_range)."""
     return any(UEFI.search(line) for _, line in lines)
 
 
@@ -194,8 +194,8 @@ def release_of_log(lines: Numbered) -> str | None:
 
 
 def image_of_log(lines: Numbered) -> str | None:
-    """Returns the place of the kernel's image as --kernel takes it, which a log with memblock=debug
-    tells; None of another log."""
+    """Returns the place of the kernel's image in the form of --kernel, or None if the log doesn't have
+    it. A log with memblock=debug does."""
     if not any("MEMBLOCK configuration:" in line for _, line in lines):
         return None
     image = claims.image_of(claims.read_log(line for _, line in lines))
@@ -203,7 +203,7 @@ def image_of_log(lines: Numbered) -> str | None:
 
 
 def spans_of(match: re.Match[str], group: int = 1) -> Range:
-    """Returns the range whose first byte is this group of a match, and its last byte the next."""
+    """Returns the range whose first byte is this group of a match and whose last byte is the next."""
     return int(match.group(group), 16), int(match.group(group + 1), 16)
 
 
@@ -229,8 +229,8 @@ def last_map(lines: Sequence[str]) -> tuple[list[Run], int]:
 
 
 def edited(runs: Sequence[Run], span: Range, old: int | None, new: int | None) -> list[Run]:
-    """Returns the map in which what has the old type (any, if it is None) in this span has the
-    new one, or is gone if that is None."""
+    """Returns the map after an edit of this span: what has the old type (any type, if it is None)
+    gets the new type, or is removed if that is None."""
     found: list[Run] = []
     for kind, first, last in runs:
         low, high = max(first, span[0]), min(last, span[1])
@@ -244,7 +244,7 @@ def edited(runs: Sequence[Run], span: Range, old: int | None, new: int | None) -
 
 
 def united(runs: Sequence[Run]) -> Iterator[Run]:
-    """Yields the runs in order, with those of one type that touch as one."""
+    """Yields the runs in order, with those joined that touch and have the same type."""
     held: Run | None = None
     for kind, first, last in sorted(runs, key=lambda run: run[1]):
         if held and held[0] == kind and held[2] + 1 == first:
@@ -258,8 +258,8 @@ def united(runs: Sequence[Run]) -> Iterator[Run]:
 
 
 def map_text(lines: Sequence[str]) -> str:
-    """Returns the report `map` of the last map that the log prints, with the edits after it up
-    to the memory of memblock."""
+    """Returns the report `map`, made from the last map that the log prints and from the edits that
+    the log names after it, until the memory of memblock."""
     runs, start = last_map(lines)
     for line in lines[start:]:
         if "MEMBLOCK configuration:" in line:
@@ -279,7 +279,7 @@ def map_text(lines: Sequence[str]) -> str:
 
 
 def memory_records(lines: Sequence[str]) -> list[Range]:
-    """Returns the records of memory in memblock's last dump."""
+    """Returns the memory records of memblock's last dump."""
     dumps = [number for number, line in enumerate(lines) if "MEMBLOCK configuration:" in line]
     matches = (claims.RECORD.search(line) for line in lines[dumps[-1] if dumps else len(lines) :])
     return [spans_of(one, 2) for one in matches if one and one.group(1) == "memory"]
@@ -294,10 +294,9 @@ def memory_text(lines: Sequence[str]) -> str:
 
 
 def nodes_text(lines: Sequence[str]) -> str:
-    """Returns the report `nodes` where the log has no SRAT, or the kernel took it; else an empty
-    text.
+    """Returns the report `nodes` if the log has no SRAT or the kernel used it; else an empty text.
 
-    The log doesn't name the domain of a generic initiator, so there is no text if a node has
+    The log doesn't name the domain of a generic initiator, so the text is also empty if a node has
     no domain."""
     faked = [match for match in map(FAKED.search, lines) if match]
     blocks = [match for match in map(log_srat.MEMORY.search, lines) if match]
@@ -324,7 +323,7 @@ def node_line(node: int, first: int, last: int) -> str:
 
 
 def node_spans(lines: Sequence[str], blocks: Sequence[Run]) -> list[Run]:
-    """Returns the blocks of the SRAT by node, joined where the log says so."""
+    """Returns the blocks of the SRAT by node, joined as the log says."""
     found = list(blocks)
     for line in lines:
         match = JOIN.search(line)
@@ -336,7 +335,7 @@ def node_spans(lines: Sequence[str], blocks: Sequence[Run]) -> list[Run]:
 
 
 def crash_text(lines: Sequence[str]) -> str:
-    """Returns the report `crash` of a log that says where the area lies, in whole MiB; an empty text of another one
+    """Returns the report `crash` if the log says where the area lies, which it does in whole MiB; else an empty text
     (reserve_crashkernel, reserve_crashkernel_low)."""
     found: dict[str, str] = {}
     for match in filter(None, map(RESERVED.search, lines)):
@@ -347,7 +346,7 @@ def crash_text(lines: Sequence[str]) -> str:
 
 
 def reports_of_log(lines: Sequence[str]) -> dict[str, list[str]]:
-    """Returns what the last boot of a log says of memory, as lines of reports by their names."""
+    """Returns what the last boot of a log says about memory, as lines of reports by their names."""
     last = [line for _, line in last_boot([(number, clean(line)) for number, line in enumerate(lines, 1)])[0]]
     texts = {"map": map_text(last), "memory": memory_text(last), "nodes": nodes_text(last), "crash": crash_text(last)}
     return {name: text.splitlines() for name, text in texts.items() if text}

@@ -1,5 +1,5 @@
-"""Calls of libbootmem: what x86-64 Linux 6.1 makes of a machine's memory at boot, without a
-process.
+"""Calls libbootmem, the library for the memory set-up of x86-64 Linux 6.1 at boot, without starting
+a process.
 
     >>> from bootmem_tools import library
     >>> from bootmem_tools.inputs import RAM, zero_page
@@ -25,12 +25,12 @@ from bootmem_tools import next_step
 # Zones: below 16 MiB, from there to 4 GiB, and above.
 DMA, DMA32, NORMAL = 0, 1, 2
 
-# Whether there is a crash area, and else why not: the command line requests none, no free range
-# fits it, its range is in use, or no range below 4 GiB fits its low part.
+# Whether there is a crash area, or why not: the command line requests none, no free range fits it,
+# its range is in use, or no range below 4 GiB fits its low part.
 NOT_REQUESTED, CRASH_RESERVED, NO_AREA, IN_USE, LOW_FAILED = range(5)
 
-# The profile of a boot: that of `bootmem`, or that of `bootmem61`, which has the rules of Linux 6.1
-# and early claims.
+# The profile of a boot: that of `bootmem`, or that of `bootmem61`, which has three rules of Linux
+# 6.1 and early claims.
 OWN, LINUX_6_1 = 0, 1
 
 # Words and names of files are texts or bytes.
@@ -61,7 +61,7 @@ class CrashArea(NamedTuple):
 
 
 class MemoryRange(NamedTuple):
-    """A record of memblock's table of memory: base and size in bytes, flags (2: mirrored), node."""
+    """A record of memblock's memory table: base and size in bytes, flags (2: mirrored), node."""
 
     base: int
     size: int
@@ -77,8 +77,8 @@ class Node(NamedTuple):
 
 
 class ZoneSpan(NamedTuple):
-    """The frames that a node spans in a zone: the first, one more than the last, and how many of
-    them are of this node and zone."""
+    """The frames that a node spans in a zone: the first, one past the last, and how many of them
+    belong to this node and zone."""
 
     start: int
     end: int
@@ -97,8 +97,8 @@ class FreeBlock(NamedTuple):
 
 
 class Refused(Exception):
-    """There is no report: `status` and `reason` say why, and the text is the line that says what
-    is wrong."""
+    """The program made no report. `status` and `reason` say why, and the text is the program's line
+    on what is wrong."""
 
     def __init__(self, status: int, line: str) -> None:
         super().__init__(line)
@@ -218,7 +218,7 @@ def _opened() -> ctypes.CDLL:
     """Opens the shared object.
 
     # Errors
-    An OSError that says what to do if there is none.
+    An OSError if there is none; it says what to do.
     """
     try:
         return ctypes.CDLL(os.environ.get("BOOTMEM_LIB", "libbootmem.so"))
@@ -227,8 +227,8 @@ def _opened() -> ctypes.CDLL:
 
 
 def _next_line() -> str:
-    """Returns the line with the command that builds the library, or names the one that is built; an
-    empty text outside the sources."""
+    """Returns a line with the command that builds the library, or that sets BOOTMEM_LIB if it is
+    built; an empty text outside the sources."""
     top = next_step.top_of_clone()
     if top is None:
         return ""
@@ -238,7 +238,7 @@ def _next_line() -> str:
 
 
 def _loaded() -> ctypes.CDLL:
-    """Returns the library, which the first call loads."""
+    """Returns the library. The first call loads it."""
     if not _libraries:
         library = _opened()
         lent = [ctypes.POINTER(_Bytes), ctypes.c_size_t, ctypes.POINTER(_File), ctypes.c_size_t]
@@ -258,13 +258,13 @@ def version() -> tuple[int, int, int]:
 
 
 def _lent(text: Text) -> _Bytes:
-    """Returns the bytes of a word or of a file, which live as long as the structure."""
+    """Returns a structure with the bytes of a word or of a file; they live as long as it does."""
     held = text.encode() if isinstance(text, str) else bytes(text)
     return _Bytes(held, len(held))
 
 
 def _lent_all(words: Words, files: Files) -> tuple[Any, int, Any, int]:
-    """Returns words and files as a call takes them."""
+    """Returns the arguments for the words and files of a call."""
     lent_words = (_Bytes * max(len(words), 1))(*map(_lent, words))
     lent_files = (_File * max(len(files), 1))(
         *(_File(_lent(name), _lent(held)) for name, held in files.items()))
@@ -272,14 +272,14 @@ def _lent_all(words: Words, files: Files) -> tuple[Any, int, Any, int]:
 
 
 class _Room:
-    """Room for a text."""
+    """A buffer for a text that a call writes."""
 
     def __init__(self, room: int) -> None:
         self.buffer = (ctypes.c_char * room)()
         self.text = _Text(ctypes.cast(self.buffer, ctypes.POINTER(ctypes.c_char)), room, 0)
 
     def fits(self) -> bool:
-        """Returns whether the text had room."""
+        """Returns whether the text did fit."""
         return bool(self.text.needed <= self.text.room)
 
     def taken(self) -> bytes:
@@ -289,10 +289,11 @@ class _Room:
 
 def call(words: Words, files: Files, room: int = 1 << 16, *,
          profile: int = OWN) -> tuple[int, bytes, bytes]:
-    """Runs the program as one call and returns its status, the reports and the line of a failure.
+    """Runs the program as one call. Returns its status, the reports, and the line of a failure.
 
-    `words` are those after its name, `files` has the bytes of each file by its name. With the
-    profile LINUX_6_1 the program is `bootmem61`. Any other number than the two has the status 2.
+    `words` are the words after the program's name, and `files` has the bytes of each file by its
+    name. With the profile LINUX_6_1 the program is `bootmem61`. Any profile other than OWN and
+    LINUX_6_1 gives status 2.
     """
     lent = _lent_all(words, files)
     out, err = _Room(room), _Room(1 << 10)
@@ -317,8 +318,8 @@ def run(words: Words, files: Files, *, profile: int = OWN) -> bytes:
 
 
 def _accept(status: int, words: Words, files: Files, profile: int) -> None:
-    """Raises a Refused, with the program's line, if the status of a call that hands over values
-    isn't 0."""
+    """Raises a Refused with the program's line, unless the status of a call that returns values is
+    0."""
     if status:
         line = call(words, files, profile=profile)[2]
         raise Refused(status, line.decode("utf-8", "replace").rstrip("\n"))
@@ -326,8 +327,8 @@ def _accept(status: int, words: Words, files: Files, profile: int) -> None:
 
 def _values(export: str, values: Any, value: Any, words: Words, files: Files, room: int,
             profile: int) -> Any:
-    """Returns all values of a call that hands over some. Only a name that ends in `_as` takes the
-    profile."""
+    """Returns all values of a call that fills a buffer with them. Only an export whose name ends in
+    `_as` has the profile as an argument."""
     lent = _lent_all(words, files)
     first = (profile,) if export.endswith("_as") else ()
     while True:
@@ -341,7 +342,7 @@ def _values(export: str, values: Any, value: Any, words: Words, files: Files, ro
 
 
 def map_runs(words: Words, files: Files, room: int = 1 << 10) -> list[MapRun]:
-    """Returns the map that the kernel works with, ascending. It is the same by each profile, so the
+    """Returns the map that the kernel works with, ascending. It doesn't depend on the profile, so the
     words are those of `bootmem`, without `--claims`.
 
     # Errors

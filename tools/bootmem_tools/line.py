@@ -57,7 +57,7 @@ def read_words(words: list[str]) -> argparse.Namespace:
 
 
 def total_of(given: argparse.Namespace) -> Callable[[str], command_line.Total] | None:
-    """Returns a function that gives total memory for a line, or None."""
+    """Returns a function that returns total memory for a line, or None if the words don't name it."""
     if given.total is not None:
         size = ranges.parse_size(given.total) or 0
         return lambda _: command_line.Total(size, size)
@@ -68,7 +68,7 @@ def total_of(given: argparse.Namespace) -> Callable[[str], command_line.Total] |
 
 
 def main(words: list[str]) -> int:
-    """Prints the line, and tells what was changed; the status says whether anything was."""
+    """Prints the line, and the changes on standard error. Returns 1 if there are any, else 0."""
     given = read_words(words)
     reading = command_line.read_line(command_line.read_file(given.cmdline), total_of(given))
     for said in reading.changes + reading.notes:

@@ -44,7 +44,7 @@ examples:
 
 
 def read_words(given: list[str]) -> tuple[argparse.Namespace, as_linux.Settings, list[str]]:
-    """Returns the tool's own words, what they tell of the boot, and the program's words."""
+    """Returns the tool's own words, the settings that they give, and the program's words."""
     parser = tool.new_parser(NAME, USAGE, ABOUT, EPILOG)
     as_linux.add_options(parser)
     as_linux.add_log(parser)
@@ -58,8 +58,8 @@ def read_words(given: list[str]) -> tuple[argparse.Namespace, as_linux.Settings,
 
 
 def claim_lines(program: str, prepared: as_linux.Prepared) -> Iterator[str]:
-    """Yields the lines of the claims file, each with the program's answer if the boot goes on, what
-    it claims, and the kernel function that makes the claim."""
+    """Yields the lines of the claims file, each with what it claims and the kernel function that makes
+    the claim, and with the program's answer unless the boot stops."""
     for line, claim, answer in as_linux.answered(program, prepared.core, prepared.claims):
         told = f"{line}: {answer}" if answer else line
         yield f"{told}: {claim.what} ({claim.rule})"

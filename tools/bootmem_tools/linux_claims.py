@@ -1,9 +1,9 @@
-"""What Linux 6.1 claims before its crash area and bootmem doesn't, made from a machine's inputs in
-the kernel's order, as lines of a claims file of bootmem61.
+"""Makes the early claims of Linux 6.1: what it claims before its crash area and bootmem doesn't. They
+are computed from a machine's inputs, in the kernel's order, as lines of a claims file of bootmem61.
 
-Each claim is a function of inputs that are there; what the inputs don't tell is left out and
-said. A line tells the program how much, how aligned and in which window; the program finds the
-place. Addresses are in bytes, and a range is its first byte and the one past its last."""
+Each claim follows from the inputs. What these don't show is left out, and a note says so. A line
+gives the size, the alignment and the window of an allocation, and the program finds the place.
+Addresses are in bytes, and a range is its first byte and the byte past its last."""
 
 from __future__ import annotations
 
@@ -15,34 +15,34 @@ from bootmem_tools import inputs, linux_log
 from bootmem_tools.direct_map import DirectMap, Free, Span, Table, down, is_within, united, up
 from bootmem_tools.ranges import FRAME, MIB, parse_size
 
-BRK = 17 * FRAME  # what brk has in use when it is claimed: page tables, and a page for DMI's texts
-END_AFTER_BRK = 48 * FRAME  # from the image's end to _end: all room of brk
+BRK = 17 * FRAME  # the part of brk in use when it is claimed: page tables, and a page for DMI's texts
+END_AFTER_BRK = 48 * FRAME  # from the image's end to _end: the size of brk
 LOG_LEAST, LOG_MOST = (
     128 << 10,
     1 << 31,
-)  # the log buffer that is there, and the longest one (LOG_BUF_LEN_MAX)
+)  # bytes of the built-in log buffer, and of the longest one (LOG_BUF_LEN_MAX)
 LOG_ALIGN = 8
 LOG_PARTS = ("the log buffer", "its descriptors", "its records' information")
 DESCRIPTOR, INFO = (
     24,
     88,
 )  # bytes of a record's descriptor and its information, one for each 32 bytes of the buffer
-SETUP_DATA, EFI_INFO, LOAD_FLAGS = 0x250, 0x1C0, 0x211  # places in the zero page
+SETUP_DATA, EFI_INFO, LOAD_FLAGS = 0x250, 0x1C0, 0x211  # offsets in the zero page
 KASLR_FLAG = 2
 BOOT_SERVICES, LOADER_DATA, CONVENTIONAL = (3, 4), 2, 7  # types of EFI descriptors
 SPECIFIC_PURPOSE, RUNTIME = 0x40000, 1 << 63  # EFI_MEMORY_SP, EFI_MEMORY_RUNTIME
-MOVES = "relocate_initrd"  # moves an initrd that isn't mapped whole
-FIRST_ID = 4_000_000_000  # of the early claims; lower IDs are left to the user's script
+MOVES = "relocate_initrd"  # the kernel function that moves an initrd that isn't mapped whole
+FIRST_ID = 4_000_000_000  # the first ID of early claims; lower IDs are left to the user's script
 LONGEST = 1 << 20  # bytes of a claims file
-FEW = 100  # so many claims make no table of 128 records grow
+FEW = 100  # up to this number of claims, no table of 128 records grows
 
 
 class Claim(NamedTuple):
-    """A range that the kernel claims: its first byte and the one past its last, what it is, and
-    the function that claims it.
+    """A range that the kernel claims: its first byte and the byte past its last, what it is, and the
+    kernel function that claims it.
 
     If `align` isn't 0, the kernel searches for the place from `low` on and below `high`, and the
-    range is the one that it finds here. A range that `is_freed` is given back at once."""
+    range is what this module's search finds. If `is_freed`, the kernel frees the range at once."""
 
     first: int
     end: int
@@ -73,12 +73,12 @@ class Descriptor(NamedTuple):
 
 
 class Machine(NamedTuple):
-    """What the rules of the claims read.
+    """The facts about a machine that the rules of the claims use.
 
-    `memory` is what memblock has after the trim, `end` the end of the last RAM (max_pfn),
-    `soft` what is soft reserved, `image` the kernel's image, `line` the command line,
-    `largest` the largest page of the direct map, `domains` the number of nodes if the
-    distances of a SLIT are kept, else 0, `told` what a log tells."""
+    `memory` is memblock's memory after the trim, `end` the end of the last RAM (max_pfn), `soft` the
+    soft reserved memory, `image` the kernel's image, `line` the command line, and `largest` the
+    largest page of the direct map. `domains` is the number of nodes if the kernel keeps the distances
+    of a SLIT, else 0. `told` is what a log has."""
 
     page: bytes
     line: str
@@ -96,7 +96,8 @@ class Machine(NamedTuple):
 
 
 class Outcome(NamedTuple):
-    """The claims in the kernel's order, what is free then, and the end of what is mapped."""
+    """The claims in the kernel's order, the memory that is free after them, and the end of the mapped
+    memory."""
 
     claims: list[Claim]
     free: Free
@@ -113,13 +114,13 @@ def file_lines(claims: Sequence[Claim]) -> list[tuple[str, Claim]]:
 
 
 def by_owner(claims: Sequence[Claim]) -> dict[str, Claim]:
-    """Returns the claims by the owners that the program's reports name for them."""
+    """Returns the claims by the names of their owners in the program's reports."""
     return {f"script {number}": claim for number, claim in enumerate(claims, FIRST_ID)}
 
 
 def named_owners(lines: Sequence[str], claims: Sequence[Claim]) -> list[str]:
-    """Returns the lines of the report `owners`, in which what an early claim is for takes the place
-    of its ID."""
+    """Returns the lines of the report `owners`, with the purpose of each early claim in place of its
+    ID."""
     early = by_owner(claims)
 
     def named(match: re.Match[str]) -> str:
@@ -130,7 +131,7 @@ def named_owners(lines: Sequence[str], claims: Sequence[Claim]) -> list[str]:
 
 
 def read_descriptors(data: bytes) -> list[Descriptor]:
-    """Returns the descriptors of an EFI memory map; none if its header isn't one."""
+    """Returns the descriptors of an EFI memory map, or none if its header is malformed."""
     if len(data) < 8 or struct.unpack_from("<I", data)[0] < 40:
         return []
     stride, found = struct.unpack_from("<I", data)[0], []
@@ -159,13 +160,13 @@ def move_initrd(page: bytes, place: int) -> bytes:
 
 
 def has_setup_data(page: bytes) -> bool:
-    """Returns whether the zero page has the address of a first node of setup_data."""
+    """Returns whether the zero page has the address of a node of setup_data."""
     return any(page[SETUP_DATA : SETUP_DATA + 8])
 
 
 def setup_data(machine: Machine, initrd: Span | None) -> Iterator[Claim]:
-    """Yields the nodes of setup_data: of the first the zero page has the address, and a log has
-    all of them."""
+    """Yields the claims of setup_data's nodes: all nodes if there is a log, else the first one, whose
+    address the zero page has."""
     first: int = struct.unpack_from("<Q", machine.page, SETUP_DATA)[0]
     rule = "memblock_x86_reserve_range_setup_data"
     nodes = list(linux_log.nodes_of(machine.told.pieces, first)) if first else []
@@ -176,11 +177,11 @@ def setup_data(machine: Machine, initrd: Span | None) -> Iterator[Claim]:
 
 
 def first_node(machine: Machine, initrd: Span | None, first: int) -> Span:
-    """Returns the range of the first node of setup_data, of which the zero page has the address
-    alone.
+    """Returns the range of the first node of setup_data. The zero page has only its address.
 
-    The extension's file tells the length if it is the node; else EFI's descriptor of loader
-    data has it, up to an initrd there."""
+    The length is that of the extension's file, if there is one. Otherwise the node is taken to reach
+    to the end of EFI's descriptor of loader data, or to an initrd there; without such a descriptor,
+    it is only a header of 16 bytes."""
     end = first + (machine.extension or 16)
     for one in machine.efi:
         if one.kind == LOADER_DATA and one.first <= first < one.end and not machine.extension:
@@ -190,7 +191,7 @@ def first_node(machine: Machine, initrd: Span | None, first: int) -> Span:
 
 
 def efi_map(machine: Machine) -> Iterator[Claim]:
-    """Yields the bytes of EFI's own memory map, whose place the zero page has (struct
+    """Yields the claim of EFI's own memory map, whose address and size the zero page has (struct
     efi_info)."""
     signature, low, size, high = struct.unpack_from("<4s12xII4xI", machine.page, EFI_INFO)
     if signature in (b"EL64", b"EL32") and (low or high) and size:
@@ -199,14 +200,14 @@ def efi_map(machine: Machine) -> Iterator[Claim]:
 
 
 def efi_tables(machine: Machine) -> Iterator[Claim]:
-    """Yields EFI's tables that a log tells, a frame each: it has their addresses alone."""
+    """Yields the claims of EFI's tables in a log. It has only their addresses, so each is a frame."""
     for name, place in machine.told.efi:
         rule = "efi_memattr_init" if name == "MEMATTR" else "efi_tpm_eventlog_init"
         yield Claim(place, down(place, FRAME) + FRAME, f"EFI's table {name}", rule)
 
 
 def boot_services(machine: Machine, held: Sequence[Span]) -> Iterator[Claim]:
-    """Yields each descriptor of boot services of which nothing is claimed yet."""
+    """Yields the claims of the descriptors of boot services in which nothing is claimed yet."""
     taken, owned = Free([(0, 1 << 64)]), owned_services(machine)
     for first, end in held:
         taken.claim(first, end)
@@ -221,14 +222,14 @@ def boot_services(machine: Machine, held: Sequence[Span]) -> Iterator[Claim]:
 
 
 def owned_services(machine: Machine) -> list[Span]:
-    """Returns the descriptors of boot services that hold a claim from before, by the map of a
-    running kernel: it gives them the attribute of runtime services and leaves the rest of them free
-    (efi_reserve_boot_services).
+    """Returns the descriptors of boot services that had an earlier claim inside, by the map of a
+    running kernel. The kernel gave these the attribute of runtime services, and leaves the rest of
+    them free (efi_reserve_boot_services).
 
-    A part of a descriptor that a driver keeps has the attribute, too (efi_arch_mem_reserve). It
-    overlaps or touches the rest of its descriptor, which lacks it. Without such rests in the map
-    the two can't be told apart, and none is returned. Of a descriptor of one frame nothing stays
-    free."""
+    A part of a descriptor that a driver keeps has this attribute, too (efi_arch_mem_reserve). It
+    overlaps or touches the rest of its descriptor, which lacks the attribute. Without such rests in
+    the map the two cases can't be distinguished, and none is returned. Of a descriptor of one frame
+    nothing stays free."""
     services = [one for one in machine.efi if one.kind in BOOT_SERVICES]
     others = [one for one in services if not one.attributes & RUNTIME]
     whole = [
@@ -243,7 +244,7 @@ def owned_services(machine: Machine) -> list[Span]:
 
 
 def is_rest(other: Descriptor, part: Descriptor) -> bool:
-    """Returns whether a descriptor could have a part, or be the rest of what the part was in."""
+    """Returns whether a descriptor could contain a part, or be the rest of the part's descriptor."""
     return (
         other.kind == part.kind
         and other.first <= part.end
@@ -253,7 +254,7 @@ def is_rest(other: Descriptor, part: Descriptor) -> bool:
 
 
 def log_sizes(line: str) -> list[int]:
-    """Returns the sizes of a longer log buffer and its two companions, or none
+    """Returns the sizes of a longer log buffer and of its two companions, or an empty list
     (log_buf_len_update, setup_log_buf)."""
     length = 0
     for value in re.findall(r"(?:^|\s)log_buf_len=([0-9A-Za-z]+)", line):
@@ -271,15 +272,16 @@ def has_kaslr(page: bytes) -> bool:
 
 
 def own_ranges(machine: Machine, initrd: Span | None) -> list[Span]:
-    """Returns what bootmem claims by itself before node data; the first MiB comes first."""
+    """Returns the ranges that bootmem claims by itself before node data, beginning with the first
+    MiB."""
     return [(0, MIB), machine.image, *machine.soft] + ([initrd] if initrd else [])
 
 
 def fixed_claims(machine: Machine, initrd: Span | None) -> list[Claim]:
-    """Returns the claims of ranges that are there before the kernel looks for any place."""
+    """Returns the claims of ranges whose place is fixed before the kernel searches for any place."""
     claims = [*setup_data(machine, initrd), *efi_map(machine), *efi_tables(machine)]
     claims.append(Claim(machine.image[1], machine.image[1] + machine.brk, "brk", "reserve_brk"))
-    # boot services are looked at before the first MiB is claimed whole
+    # the kernel reads boot services before it claims all of the first MiB
     early = [(0, 64 << 10), *own_ranges(machine, initrd)[1:]]
     early += [(one.first, one.end) for one in claims]
     # From the top down, so that a table that grows at the top of memory lies in no later range.
@@ -287,7 +289,7 @@ def fixed_claims(machine: Machine, initrd: Span | None) -> list[Claim]:
 
 
 def early_claims(machine: Machine) -> Outcome:
-    """Returns what the kernel claims before node data, as far as the inputs tell.
+    """Returns what the kernel claims before node data, as far as the inputs show it.
 
     # Errors
     Exhausted if no memory is left for a page table.
@@ -317,8 +319,8 @@ def early_claims(machine: Machine) -> Outcome:
 
 
 def table_claims(pages: Sequence[Table]) -> Iterator[Claim]:
-    """Yields the claims of page tables. Tables of one window that lie one below the other are one
-    claim, since a search for all of them finds the same frames."""
+    """Yields the claims of page tables. Adjacent tables from one window become one claim, since a
+    search for all of them at once finds the same frames."""
     rest = list(pages)
     while rest:
         top, window = rest[0].place, rest[0][1:]
@@ -334,8 +336,8 @@ def table_claims(pages: Sequence[Table]) -> Iterator[Claim]:
 def move_from(
     machine: Machine, free: Free, tables: DirectMap, initrd: Span
 ) -> Iterator[Claim]:
-    """Yields the new place of an initrd that the direct map lacks in part, and its old one, which
-    is given back (reserve_initrd, relocate_initrd); nothing if it stays or finds no place."""
+    """Yields the claims for an initrd that isn't mapped whole: its new place, and its old one, which
+    is freed (reserve_initrd, relocate_initrd). Yields none if it stays or there is no place."""
     if is_within(united(tables.mapped), *initrd):  # pfn_range_is_mapped
         return
     what = "the initrd's new place"
@@ -349,7 +351,7 @@ def move_from(
 
 
 def placed(free: Free, size: int, align: int, high: int, what: str, rule: str) -> Iterator[Claim]:
-    """Yields the claim of an allocation from the top down; none if it finds no place."""
+    """Yields the claim of an allocation from the top down, or none if there is no place."""
     place = free.take(size, align, 0, high)
     if place:
         yield Claim(place, place + size, what, rule, align, 0, high)

@@ -1,5 +1,5 @@
-"""Areas of cma= and hugetlb_cma=, and the places that Linux 6.1 gives them between node data and
-the crash area (kernel/dma/contiguous.c, mm/hugetlb.c, mm/cma.c)."""
+"""Places the areas of cma= and hugetlb_cma= as Linux 6.1 does. It claims them after node data and
+before the crash area (kernel/dma/contiguous.c, mm/hugetlb.c, mm/cma.c)."""
 
 from __future__ import annotations
 
@@ -10,7 +10,7 @@ from bootmem_tools import command_line, reports
 from bootmem_tools.direct_map import PMD, PUD, Free, Span, down, is_within, united, up
 
 ALIGN = PMD  # CMA_MIN_ALIGNMENT_BYTES
-LOW = 1 << 32  # an area lies above it, as low as it can, if there is room
+LOW = 1 << 32  # if there is room, an area lies as low as possible above this address
 
 
 # An area: its range, what it is, and the function that claims it.
@@ -38,7 +38,7 @@ def is_asked(line: str) -> bool:
 
 
 def nodes_of(memory: Sequence[Span], parts: Iterable[reports.Span]) -> list[Node]:
-    """Returns the nodes with their memory, ascending, by the report `nodes`."""
+    """Returns the nodes with their memory, ascending, from the report `nodes`."""
     found: dict[int, list[Span]] = {}
     for one in parts:
         if "node" not in one.fields:
@@ -69,8 +69,8 @@ def cma_asked(line: str) -> Asked | None:
 
 
 def hugetlb_asked(line: str) -> tuple[int, dict[int, int]]:
-    """Returns what `hugetlb_cma=` asks for: the sum, and the sizes of single nodes
-    (cmdline_parse_hugetlb_cma)."""
+    """Returns what `hugetlb_cma=` asks for: the total, and the sizes for single nodes by their
+    numbers (cmdline_parse_hugetlb_cma)."""
     total, nodes = 0, {}
     for word in command_line.words_of(line)[0]:
         if word.name != "hugetlb_cma" or not word.value:
@@ -91,8 +91,8 @@ def hugetlb_asked(line: str) -> tuple[int, dict[int, int]]:
 
 
 def lowest(free: Free, size: int, align: int, low: int, high: int) -> int:
-    """Returns the lowest place of this size and alignment from `low` on that ends by `high`, or 0
-    (__memblock_find_range_bottom_up)."""
+    """Returns the lowest address of a free place of this size and alignment that lies between `low`
+    and `high`, or 0 (__memblock_find_range_bottom_up)."""
     for first, end in free.spans:
         place = up(max(first, low), align)
         if place + size <= min(end, high):
@@ -101,8 +101,8 @@ def lowest(free: Free, size: int, align: int, low: int, high: int) -> int:
 
 
 def place_area(free: Free, memory: Sequence[Span], asked: Asked, within: Sequence[Span]) -> int:
-    """Claims an area and returns its place, or 0 if it finds none
-    (cma_declare_contiguous_nid); `within` is the memory of its node, or all memory."""
+    """Claims an area and returns its address, or 0 if there is no place
+    (cma_declare_contiguous_nid). `within` is the memory of its node, or all memory."""
     end = memory[-1][1] if memory else 0
     is_fixed = bool(asked.base) and asked.base + asked.size == asked.limit
     if is_fixed and asked.base % ALIGN:
@@ -121,8 +121,8 @@ def place_area(free: Free, memory: Sequence[Span], asked: Asked, within: Sequenc
 
 
 def place_within(free: Free, size: int, base: int, limit: int, end: int) -> int:
-    """Returns a place from `base` on that ends by the limit: the lowest above 4 GiB if memory
-    goes on far enough, else the highest."""
+    """Returns the address of a free place between `base` and `limit`: the lowest one above 4 GiB if
+    there is memory and room for it there, else the highest one."""
     found = lowest(free, size, ALIGN, LOW, limit) if end >= LOW + size else 0
     return found or free.find(size, ALIGN, base, limit)
 
@@ -141,8 +141,8 @@ def clipped(free: Free, within: Sequence[Span]) -> Free:
 def areas(
     line: str, free: Free, nodes: Sequence[Node], high: int, has_gigantic: bool
 ) -> Iterator[Area]:
-    """Yields the areas that the line asks for, each with what it is and the function that claims
-    it. `high` is the end of what is mapped."""
+    """Yields the areas that the line asks for, each with what it is and the kernel function that
+    claims it. `high` is the end of the mapped memory."""
     memory = united(span for node in nodes for span in node.memory)
     asked = cma_asked(line)
     if asked:

@@ -1,5 +1,5 @@
-"""What a kernel's log tells of early claims that no input of bootmem has: nodes of setup_data,
-ACPI tables, and tables of EFI that stay out of boot services' memory."""
+"""Reads from a kernel's log the early claims that no input of bootmem has: nodes of setup_data,
+ACPI tables, and tables of EFI that the kernel claims before boot services' memory."""
 
 from __future__ import annotations
 
@@ -10,7 +10,7 @@ from typing import Iterator, NamedTuple
 from bootmem_tools import tool
 from bootmem_tools.direct_map import Span
 
-# EFI tables that the kernel claims before it looks at boot services (efi_memattr_init,
+# EFI tables that the kernel claims before the memory of boot services (efi_memattr_init,
 # efi_tpm_eventlog_init), by their names in the log.
 EFI_TABLES = ("MEMATTR", "TPMEventLog", "TPMFinalLog")
 NODE = re.compile(r"reserve setup_data: \[mem 0x([0-9a-f]{1,16})-0x([0-9a-f]{1,16})\] (.*)")
@@ -25,9 +25,9 @@ EFI_TABLE = re.compile(rf"\b({'|'.join(EFI_TABLES)})=0x([0-9a-f]{{1,16}})\b")
 
 
 class Told(NamedTuple):
-    """What a log tells: the pieces of RAM as setup_data splits it, ACPI tables by name, and the
-    addresses of EFI's tables by name, and RAM that became reserved later. `has_log` says whether
-    there is a log at all."""
+    """What a log has: the pieces into which nodes of setup_data split RAM, ACPI tables by name, the
+    addresses of EFI's tables by name, and RAM that became reserved later. `has_log` is false without
+    a log."""
 
     has_log: bool
     pieces: list[Span]
@@ -40,16 +40,16 @@ NOTHING = Told(False, [], [], [], [])  # without a log
 
 
 def read_log(path: str | None) -> Told:
-    """Returns what the log in a file tells; nothing if the path is None."""
+    """Returns what the log in a file has; NOTHING if the path is None."""
     return NOTHING if path is None else told_by(tool.read_text(path, kind=tool.LOG))
 
 
 def in_folder(folder: str, name: str = "log") -> tuple[Told, list[str]]:
-    """Returns what the log in a folder tells, nothing if there is none or it lacks the boot's
-    start; and a line that says whether it is used, or none.
+    """Returns what the log in a folder has, or NOTHING if there is none or it lacks the boot's start.
+    Also returns a line that says whether the log is used, if there is one.
 
     # Errors
-    A Trouble if it is no text.
+    A Trouble if it isn't a text.
     """
     path = os.path.join(folder, name)
     if not os.path.isfile(path):
@@ -61,7 +61,7 @@ def in_folder(folder: str, name: str = "log") -> tuple[Told, list[str]]:
 
 
 def told_by(text: str) -> Told:
-    """Returns what this text of a log tells."""
+    """Returns what this text of a log has."""
     pieces = [
         (int(first, 16), int(last, 16) + 1)
         for first, last, kind in NODE.findall(text)
@@ -84,8 +84,9 @@ def nodes_of(pieces: list[Span], first_node: int) -> Iterator[Span]:
     """Yields the nodes of setup_data among pieces of RAM, each with its header
     (e820__reserve_setup_data).
 
-    Pieces that touch are RAM and nodes in turn, since the map joins pieces of one type. Which of
-    the two comes first is known for the pieces with the first node; elsewhere it is RAM."""
+    Of pieces that touch, every second one is a node and the others are RAM, since the map joins
+    pieces of the same type. Among the pieces with the first node, that node shows which ones are
+    nodes; elsewhere the lowest piece is RAM."""
     chain: list[Span] = []
     for piece in [*pieces, (0, 0)]:
         if chain and chain[-1][1] == piece[0]:

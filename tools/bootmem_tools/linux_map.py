@@ -1,5 +1,6 @@
-"""Edits of a boot's memory maps that Linux 6.1 makes and no word of the command line can: invalid
-descriptors of EFI's map are dropped, and the kernel's image is RAM after EFI's map was added."""
+"""Makes two edits of a boot's memory maps that Linux 6.1 makes and no word of the command line can
+make: invalid descriptors of EFI's map are dropped, and the kernel's image becomes RAM after EFI's
+map was added."""
 
 from __future__ import annotations
 
@@ -16,7 +17,7 @@ EDITS = ("mem", "memmap", command_line.EFI)  # words of the line that change the
 
 
 class Cleaned(NamedTuple):
-    """An EFI memory map without invalid descriptors, and these with their numbers from 0."""
+    """An EFI memory map without invalid descriptors, and the invalid ones with their numbers from 0."""
 
     data: bytes
     dropped: list[tuple[int, Descriptor]]
@@ -42,7 +43,7 @@ def clean_descriptors(data: bytes) -> Cleaned:
 
 
 def dropped_lines(dropped: Sequence[tuple[int, Descriptor]]) -> list[str]:
-    """Returns what is to be said of dropped descriptors, a line each for the first of them."""
+    """Returns the notes on dropped descriptors, one line for each of the first ones."""
     lines = []
     for place, one in dropped[:MOST]:
         pages = (one.end - one.first) // ranges.FRAME
@@ -58,7 +59,7 @@ def dropped_lines(dropped: Sequence[tuple[int, Descriptor]]) -> list[str]:
 
 
 def with_ram(entries: Iterable[Entry], first: int, end: int) -> list[Entry]:
-    """Returns entries that don't overlap with this range as RAM in place of what they have of it
+    """Returns entries, which mustn't overlap, with this range replaced by RAM
     (e820_add_kernel_range)."""
     made = [(first, end - first, inputs.RAM)]
     for base, size, kind in entries:
@@ -69,8 +70,8 @@ def with_ram(entries: Iterable[Entry], first: int, end: int) -> list[Entry]:
 
 
 def with_table(page: bytes, entries: Sequence[Entry]) -> tuple[bytes, bytes | None]:
-    """Returns a zero page with these entries in place of its own, and an extension with those for
-    which it has no room, or None if there are none.
+    """Returns a zero page with these entries in place of its own, and an extension with the entries
+    for which it has no room, or None if it has room for all.
 
     # Errors
     A ValueError if there are more than both have room for.

@@ -1,4 +1,4 @@
-"""An SRAT as Linux 6.1 reads it, written as a table that bootmem reads alike
+"""Rewrites an SRAT so that bootmem reads it as Linux 6.1 reads the given one
 (drivers/acpi/numa/srat.c)."""
 
 from __future__ import annotations
@@ -16,7 +16,7 @@ LEAST = {PROCESSOR: 16, MEMORY: 40, X2APIC: 24, INITIATOR: 32}  # bytes of an en
 
 
 class Reading(NamedTuple):
-    """The table, None if the kernel drops it; and what was changed, a line each."""
+    """The table, or None if the kernel drops it; and the changes, one line each."""
 
     table: bytes | None
     changes: list[str]
@@ -55,8 +55,8 @@ def processor_domain(kind: int, entry: bytes, revision: int, has_x2apic: bool) -
 def processors(
     entries: list[tuple[int, bytes]], revision: int, has_x2apic: bool, changes: list[str]
 ) -> Iterator[bytes]:
-    """Yields the entries of the processors' pass, in table order, as the program reads them
-    (acpi_numa_init)."""
+    """Yields the entries of the kernel's pass over processors, in table order, in the form that the
+    program reads (acpi_numa_init)."""
     for kind, entry in entries:
         if kind not in (PROCESSOR, X2APIC, INITIATOR):
             continue
@@ -82,7 +82,7 @@ def processors(
 
 
 def blocks(entries: list[tuple[int, bytes]], revision: int, changes: list[str]) -> Iterator[bytes]:
-    """Yields the enabled blocks of memory as the program reads them
+    """Yields the enabled blocks of memory in the form that the program reads
     (acpi_numa_memory_affinity_init)."""
     for kind, entry in entries:
         if kind != MEMORY:
@@ -106,8 +106,8 @@ def blocks(entries: list[tuple[int, bytes]], revision: int, changes: list[str]) 
 
 
 def read_table(table: bytes, has_x2apic: bool) -> Reading:
-    """Returns an SRAT as the kernel reads it; one of less than a header, or of another signature,
-    stays as it is."""
+    """Returns an SRAT as the kernel reads it. A table that is shorter than a header, or has another
+    signature, is returned unchanged."""
     if len(table) < HEAD or table[:4] != b"SRAT":
         return Reading(table, [])
     changes: list[str] = []

@@ -1,5 +1,5 @@
-"""The ACPI table SRAT that a kernel's log tells: its processors and its ranges of memory
-(arch/x86/mm/srat.c, drivers/acpi/numa/srat.c)."""
+"""Makes an ACPI table SRAT from the processors and the ranges of memory that a kernel logged as it
+read the table (arch/x86/mm/srat.c, drivers/acpi/numa/srat.c)."""
 
 from __future__ import annotations
 
@@ -19,15 +19,15 @@ BEGUN = re.compile(r"SRAT: (Node \d+ PXM|PXM \d+ -> APIC)")
 LISTED = re.compile(r"ACPI: SRAT 0x[0-9A-Fa-f]+ ")
 NODE = re.compile(r"\bNODE_DATA\((\d{1,4})\) allocated|\bInitmem setup node (\d{1,4}) \[")
 ENABLED, HOTPLUG, NON_VOLATILE = 1, 2, 4  # flags of a range
-APIC_DIGITS = 2  # of an APIC id; an x2APIC id has four or more
-UNUSABLE = 255  # the first x2APIC id that takes x2APIC mode
+APIC_DIGITS = 2  # digits of an APIC id; an x2APIC id has four or more
+UNUSABLE = 255  # the first x2APIC id that can only be used in x2APIC mode
 
 # Lines of a log, each with its number from 1 on.
 Numbered = Sequence["tuple[int, str]"]
 
 
 class Found(NamedTuple):
-    """The table, None if the log has none, and what a reader should know, a line each."""
+    """The table, or None if the log has none, and the notes on it, one line each."""
 
     table: bytes | None
     notes: list[str]
@@ -42,7 +42,7 @@ class Nodes:
         self.notes: list[str] = []
 
     def check(self, number: int, domain: int, node: int) -> None:
-        """Notes the first line whose node isn't the one that follows from the lines before."""
+        """Adds a note on the first line whose node doesn't follow from the lines before it."""
         if domain not in self.domains:
             self.domains.append(domain)
         place = self.domains.index(domain)
@@ -64,8 +64,8 @@ def processor_entry(number: int, match: re.Match[str]) -> bytes:
 def memory_entry(number: int, match: re.Match[str]) -> bytes:
     """Returns the entry of a range of memory.
 
-    A range without bytes is logged with its last byte below its first. So is one that passes 2^64,
-    which the kernel passes over but for its domain (numa_add_memblk_to); it becomes one without
+    A range without bytes is logged with its last byte below its first. So is a range that goes beyond
+    2^64, of which the kernel uses only the domain (numa_add_memblk_to). Both become a range without
     bytes.
     """
     domain = check_domain(number, int(match.group(2)))
@@ -76,10 +76,10 @@ def memory_entry(number: int, match: re.Match[str]) -> bytes:
 
 
 def check_domain(number: int, domain: int) -> int:
-    """Returns the domain.
+    """Returns the domain if an entry has room for its number.
 
     # Errors
-    A Trouble if an entry has no room for it.
+    A Trouble if it hasn't.
     """
     if domain >= 1 << 32:
         raise tool.Trouble(f"line {number}: no domain has the number {domain}")
@@ -87,7 +87,7 @@ def check_domain(number: int, domain: int) -> int:
 
 
 def read_entries(lines: Numbered) -> tuple[list[bytes], list[str]]:
-    """Returns the entries of the lines in their order, and what a reader should know of them.
+    """Returns the entries of the lines in their order, and the notes on them.
 
     # Errors
     A Trouble if a line of an entry isn't whole.
@@ -107,7 +107,7 @@ def read_entries(lines: Numbered) -> tuple[list[bytes], list[str]]:
 
 
 def read_srat(lines: Numbered) -> Found:
-    """Returns the SRAT that these lines of one boot tell.
+    """Returns the SRAT that these lines of one boot list.
 
     # Errors
     A Trouble if a line of an entry isn't whole.
