@@ -1,5 +1,4 @@
-"""Compressed logs, as logrotate leaves them: what a file has before gzip, bzip2, xz or zstd packed
-it."""
+"""Unpacks compressed logs, as logrotate leaves them: files of gzip, bzip2, xz or zstd."""
 
 from __future__ import annotations
 
@@ -10,17 +9,17 @@ import lzma
 import zlib
 from typing import BinaryIO, Callable, Optional, cast
 
-# Opens what a compressed file has.
+# Opens the unpacked content of a compressed file.
 Opener = Callable[[BinaryIO], BinaryIO]
 
 GZIP, BZIP2, XZ, ZSTD = b"\x1f\x8b", b"BZh", b"\xfd7zXZ\0", b"\x28\xb5\x2f\xfd"
 LONGEST_MARK = 6
-# What reading a compressed file fails with if it was cut or changed; an OSError then has no number.
+# The errors of reading a compressed file that was cut or changed; an OSError then has no number.
 ERRORS = (EOFError, OSError, zlib.error, lzma.LZMAError)
 
 
 def zstd_opener() -> Optional[Opener]:
-    """Returns what opens a file of zstd, or None if this Python has no module for it."""
+    """Returns an Opener for a file of zstd, or None if this Python has no module for it."""
     try:
         module = importlib.import_module("compression.zstd")  # of Python 3.14
         return cast(Opener, module.ZstdFile)
@@ -44,11 +43,12 @@ OPENERS: dict[bytes, tuple[str, Callable[[], Optional[Opener]]]] = {
 
 
 def name_of(first: bytes) -> str | None:
-    """Returns the name of what packed a file that begins with these bytes, or None."""
+    """Returns the name of the program that packed a file with these first bytes, or None."""
     return next((name for mark, (name, _) in OPENERS.items() if first.startswith(mark)), None)
 
 
 def opened(file: BinaryIO, name: str) -> BinaryIO | None:
-    """Returns what a file packed by this name has, or None if this Python can't unpack it."""
+    """Returns the content of a file that the program of this name packed, or None if this Python
+    can't unpack it."""
     make = next(opener for one, opener in OPENERS.values() if one == name)()
     return make(file) if make else None

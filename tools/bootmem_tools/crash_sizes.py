@@ -1,5 +1,5 @@
-"""What bootmem-crash finds of a machine: the greatest sizes and whether what is asked for fits, as
-lines and as an object."""
+"""The results of bootmem-crash for a machine, as lines and as an object: the greatest sizes, and
+whether the areas that are asked for fit."""
 
 from __future__ import annotations
 
@@ -10,8 +10,8 @@ from bootmem_tools.objects import Object
 
 
 class Greatest(NamedTuple):
-    """The greatest size in MiB that fits in a form, 0 if none does, and its area; `below` is the
-    same for areas below 4 GiB, if the first isn't one of them."""
+    """The greatest size in MiB that fits in a form, 0 if none does, and its area. If that area isn't
+    below 4 GiB, `below` is the greatest size for areas below 4 GiB."""
 
     form: str
     size: int
@@ -20,8 +20,8 @@ class Greatest(NamedTuple):
 
 
 class Outcome(NamedTuple):
-    """What becomes of asking for an area: `what` was asked for, and what that is on this machine if
-    it goes by total memory; the area, or why there is none."""
+    """The outcome of asking for an area: `what` was asked for; `picked`, the size on this machine if it
+    depends on total memory; and the area, or the reasons why there is none."""
 
     head: str
     what: str
@@ -31,7 +31,7 @@ class Outcome(NamedTuple):
 
 
 class Found(NamedTuple):
-    """All that was found of a machine."""
+    """All results for a machine."""
 
     machine: str
     greatest: Sequence[Greatest]
@@ -39,7 +39,7 @@ class Found(NamedTuple):
 
     @property
     def fits(self) -> bool:
-        """Returns whether all that is asked for fits, or if nothing is, whether anything does."""
+        """Returns whether all areas that are asked for fit or, if none is, whether any size fits."""
         if self.outcomes:
             return all(one.area for one in self.outcomes)
         return any(one.size for one in self.greatest)
@@ -100,8 +100,8 @@ def greatest_object(found: Greatest) -> Object:
 
 
 def as_object(found: Found, notes: Sequence[str]) -> Object:
-    """Returns all that was found as an object; the notes are what is printed on standard error
-    otherwise."""
+    """Returns all results as an object, with the notes that are otherwise printed on standard
+    error."""
     asked = [{"from": one.head, "asked": one.what, "picked": one.picked, "fits": bool(one.area), "area": area_object(one.area),
               "reasons": list(one.reasons)} for one in found.outcomes]
     return {"machine": found.machine, "fits": found.fits, "greatest": {one.form: greatest_object(one) for one in found.greatest},

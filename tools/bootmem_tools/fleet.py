@@ -1,4 +1,4 @@
-"""bootmem-fleet: what bootmem says of many machines, a line each."""
+"""bootmem-fleet: boots many machines with bootmem and prints one line for each."""
 
 from __future__ import annotations
 
@@ -69,10 +69,10 @@ examples:
 
 FILES = (("--e820ext", "e820ext.bin"), ("--cmdline", "cmdline"), ("--srat", "srat.bin"), ("--efi", "efi.bin"), ("--slit", "slit.bin"))
 ASKED = ["map", "summary", "crash", "nodes"]
-PANICS = 3  # the status if each run ended with 0, and Linux 6.1 is known to panic on a machine
-LACKS = 4  # the status if none of this, and an area that is asked for doesn't fit
-UNTAKEN = 5  # the status if neither 1 nor 3, and what --cmdline-add asks for counts on no machine
-LACKING = ("no area", "in use", "low failed")  # outcomes of such an area
+PANICS = 3  # the status if each run ended with 0, but Linux 6.1 is known to panic on a machine
+LACKS = 4  # the status if it isn't 1, 3 or 5, but an area that is asked for doesn't fit
+UNTAKEN = 5  # the status if it isn't 1 or 3, but the area that --cmdline-add asks for counts on no machine
+LACKING = ("no area", "in use", "low failed")  # outcomes of an area that doesn't fit
 FORMS = {"plain": "", "high": ",high"}
 COLUMNS = ["folder", "status", "line", "runs", "usable", "free", "crash", "low", "numa", "nodes"]
 
@@ -91,8 +91,8 @@ class Plan(NamedTuple):
 
 
 class Answer(NamedTuple):
-    """The outcome for a folder: its row, whether the image's place was assumed, what is to be said
-    of its inputs, and whether the kernel takes its crash area from the words that were added."""
+    """The outcome for a folder: its row, whether the image's place was assumed, the notes on its
+    inputs, and whether the kernel takes its crash area from the words that were added."""
 
     row: objects.Object
     assumed: bool
@@ -125,8 +125,8 @@ def read_words(words: list[str]) -> argparse.Namespace:
 
 
 def kernel_words(folder: str, plan: Plan) -> list[str]:
-    """Returns the words that tell where the kernel's image lies, as far as the words, or the
-    folder's kernel or words, tell it."""
+    """Returns the words for the place of the kernel's image, if the plan, or the folder's file kernel
+    or words, gives it."""
     if plan.kernel:
         return ["--kernel", plan.kernel]
     told = machine.text_in(folder, "kernel")
@@ -137,8 +137,8 @@ def kernel_words(folder: str, plan: Plan) -> list[str]:
 
 
 def dropped(line: str, names: list[str]) -> str:
-    """Returns the line without the words of these names; blanks outside quotation marks separate
-    words."""
+    """Returns the line without the words of these names. Words are separated by blanks outside
+    quotation marks."""
     words, quoted = [""], False
     for letter in line:
         quoted ^= letter == '"'
@@ -150,7 +150,7 @@ def dropped(line: str, names: list[str]) -> str:
 
 
 def line_of(folder: str, plan: Plan) -> tuple[bytes, int]:
-    """Returns the folder's line, changed as the plan says, and where the added words begin."""
+    """Returns the folder's line with the plan's changes, and the place where the added words begin."""
     path = os.path.join(folder, "cmdline")
     line = b""
     if os.path.exists(path):
@@ -176,7 +176,8 @@ def takes_added(folder: str, plan: Plan, row: objects.Object) -> bool:
 
 
 def run(folder: str, plan: Plan, names: list[str], words: list[str]) -> tuple[int, str, reports.Texts]:
-    """Returns the program's status, what it said, and these reports for these words in the folder; none if the status isn't 0."""
+    """Runs the program for these reports and words in the folder. Returns its status, its line on standard error, and the reports, which
+    are none if the status isn't 0."""
     done = subprocess.run([plan.program, "--report", ",".join(names), *words], stdin=subprocess.DEVNULL,
                           stdout=subprocess.PIPE, stderr=subprocess.PIPE, cwd=folder, check=False)
     said = "".join(done.stderr.decode("utf-8", "replace").splitlines()[:1])
@@ -221,7 +222,7 @@ def run_folder(folder: str, plan: Plan, words: list[str], kernel: list[str]) -> 
 
 
 def boot_folder(folder: str, plan: Plan, words: list[str], kernel: list[str]) -> Answer:
-    """Returns the answer for one folder by its boot with these words."""
+    """Returns the answer for one folder from its boot with these words."""
     if plan.is_raw:
         return answer_for(folder, kernel, run(folder, plan, ASKED, words), [], None)
     with as_linux.prepared(plan.program, words, plan.settings, folder) as prepared:
@@ -244,8 +245,8 @@ def greatest_of(folder: str, plan: Plan, line: str | None, kernel: str | None) -
 
 def answer_for(folder: str, kernel: list[str], outcome: tuple[int, str, reports.Texts],
                said: list[str], place: str | None) -> Answer:
-    """Returns the answer for the outcome of a folder's boot, with what is said of its inputs and of
-    the image's place."""
+    """Returns the answer for the outcome of a folder's boot, with the notes on its inputs and on the
+    image's place."""
     status, line, texts = outcome
     if status != 0:
         return Answer(row_of(folder, status, line, None), not kernel, said)
@@ -284,13 +285,13 @@ def columns(row: objects.Object, has_greatest: bool = False) -> list[str]:
 
 
 def outer_folders(folders: list[str]) -> list[str]:
-    """Returns those that have no zero page, but folders that have one."""
+    """Returns the folders without a zero page that contain folders with one."""
     pageless = [folder for folder in folders if os.path.isdir(folder) and not os.path.exists(os.path.join(folder, "zp.bin"))]
     return [folder for folder in pageless if glob.glob(os.path.join(glob.escape(folder), "*", "zp.bin"))]
 
 
 def complaints(plan: Plan) -> list[str]:
-    """Returns what is wrong with the words that are added to every line, each complaint once, whatever machine they are added on."""
+    """Returns the complaints about the words that are added to every line, each once. They don't depend on the machine."""
     if not plan.add:
         return []
     total = command_line.Total(1 << 60, 1 << 60)
@@ -299,8 +300,8 @@ def complaints(plan: Plan) -> list[str]:
 
 
 class Tally:
-    """What the answers come to: whether a run failed, a machine panics or lacks an area, for how
-    many the image's place was assumed, and on how many the added words count."""
+    """A summary of the answers: whether a run failed, and whether a machine panics or lacks an area;
+    for how many the image's place was assumed, and on how many the added words count."""
 
     def __init__(self) -> None:
         self.failed = self.panics = self.lacks = False
@@ -327,7 +328,7 @@ class Tally:
         return LACKS if self.lacks else 0
 
     def complain(self, plan: Plan) -> None:
-        """Says what holds for all folders together."""
+        """Prints the notes that concern all folders together."""
         if self.assumed:
             tool.complain(NAME, f"of {self.assumed} of {self.done} folders nothing tells where the "
                           "kernel's image lies: 16 MiB to 48 MiB is assumed")
@@ -337,7 +338,7 @@ class Tally:
 
 
 def print_answer(answer: Answer, given: argparse.Namespace) -> None:
-    """Prints the line for a folder, and what is to be said of it."""
+    """Prints the line for a folder, and the notes on it."""
     is_text = not given.json
     print("\t".join(columns(answer.row, given.greatest)) if is_text else json.dumps(answer.row))
     folder = answer.row["folder"]
@@ -346,7 +347,7 @@ def print_answer(answer: Answer, given: argparse.Namespace) -> None:
 
 
 def say_first(given: argparse.Namespace, plan: Plan) -> None:
-    """Says what is wrong with the words, before any folder is read."""
+    """Prints what is wrong with the tool's words, before any folder is read."""
     for line in complaints(plan):
         tool.complain(NAME, f"--cmdline-add: {line}")
     for folder in outer_folders(given.folders):
@@ -357,7 +358,7 @@ def say_first(given: argparse.Namespace, plan: Plan) -> None:
 
 
 def main(words: list[str]) -> int:
-    """Prints a line for each folder; the status says whether each run ended with 0."""
+    """Prints a line for each folder, and returns the exit status."""
     given = read_words(words)
     named = runner.find_program(given.program, runner.OWN if given.raw else runner.LINUX)
     program, add = os.path.abspath(named), given.cmdline_add

@@ -1,5 +1,5 @@
-"""What several tools know of a machine: a folder of collect.sh, the resources that its kernel
-shows, the line as the kernel reads it, and the boots on which Linux 6.1 is known to panic."""
+"""Facts about a machine that several tools use: the files in a folder of collect.sh, the resources
+that its kernel shows, its line as the kernel reads it, and whether Linux 6.1 is known to panic."""
 
 from __future__ import annotations
 
@@ -15,16 +15,16 @@ from bootmem_tools.inputs import PAGE_SIZE
 from bootmem_tools.tool import Kind, read_text
 
 FILES = (("--e820ext", "e820ext.bin"), ("--srat", "srat.bin"), ("--efi", "efi.bin"))
-REACH = 1 << 46  # of page tables of four levels
-FEW = 256  # frames: fewer that no block covers pass numa_meminfo_cover_memory
+REACH = 1 << 46  # the end of the addresses that page tables of four levels reach
+FEW = 256  # if fewer frames than this are in no block, numa_meminfo_cover_memory accepts the blocks
 NO_SRAT = ("srat: the kernel has several nodes, but the folder has no srat.bin, so bootmem takes "
            "all memory for node 0")
-SIGNATURE = 0x1C0  # of efi_info in the zero page: EL64 or EL32 if the firmware is UEFI
-SHOWN = Kind("text of a kernel", 64 << 20)  # a text in a machine's folder
+SIGNATURE = 0x1C0  # offset of efi_info's signature in the zero page: EL64 or EL32 with UEFI firmware
+SHOWN = Kind("text of a kernel", 64 << 20)  # a text that the kernel showed, in a machine's folder
 
 
 class Resource(NamedTuple):
-    """A line of /proc/iomem, and how deep it lies."""
+    """A line of /proc/iomem, and how deep it is nested."""
 
     first: int
     last: int
@@ -44,8 +44,8 @@ def read_iomem(text: str) -> list[Resource]:
 
 
 def image_place(resources: list[Resource]) -> str | None:
-    """Returns the kernel's image as --kernel takes it, `Kernel code` to `Kernel bss` in whole
-    frames, or None if none is shown."""
+    """Returns the place of the kernel's image in the form of --kernel, or None if none is shown. It
+    is `Kernel code` to `Kernel bss`, in whole frames."""
     own = [one for one in resources if one.name.startswith("Kernel ") and one.last]
     if not any(one.name == "Kernel code" for one in own):
         return None
@@ -61,8 +61,8 @@ def text_in(folder: str, name: str) -> str | None:
 
 
 def kernel_in(folder: str) -> str | None:
-    """Returns the kernel's place by a folder of collect.sh: by its file `kernel`, else by
-    `words` (as under examples/), else by its iomem; None if none of them has it."""
+    """Returns the kernel's place from a folder of collect.sh: from its file `kernel`, else from
+    `words` (as under examples/), else from its iomem; None if none of them has it."""
     told = text_in(folder, "kernel")
     words = (text_in(folder, "words") or "").split()
     if told is None and "--kernel" in words[:-1]:
@@ -85,7 +85,8 @@ def files_in(folder: str) -> list[str]:
 
 
 def line_in(program: str, folder: str) -> command_line.Reading:
-    """Returns the folder's command line as the kernel reads it over the folder's map."""
+    """Returns the folder's command line as the kernel reads it, with total memory by the folder's
+    map."""
     path = os.path.join(folder, "cmdline")
     data = command_line.read_file(path) if os.path.exists(path) else b""
     words = files_in(folder)
@@ -95,14 +96,14 @@ def line_in(program: str, folder: str) -> command_line.Reading:
 
 
 def is_uefi(path: str) -> bool:
-    """Returns whether the zero page of this file is that of a machine with UEFI firmware."""
+    """Returns whether the zero page in this file is from a machine with UEFI firmware."""
     with open(path, "rb") as file:
         return file.read(PAGE_SIZE)[SIGNATURE:SIGNATURE + 4] in (b"EL64", b"EL32")
 
 
 def panics(texts: Texts) -> Iterator[str]:
-    """Yields why Linux 6.1 panics on a boot with these reports `map` and `nodes`, where bootmem
-    goes on; nothing if nothing is known."""
+    """Yields the known reasons why Linux 6.1 panics on a boot with these reports `map` and `nodes`,
+    on which bootmem goes on."""
     memory = [run for run in spans("map", texts["map"]) if run.fields["type"] in MEMORY]
     nodes = list(read_lines("nodes", texts["nodes"]))
     uncovered = sum(int(line.fields["uncovered"]) for line in nodes if line.kind == "uncovered")

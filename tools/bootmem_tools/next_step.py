@@ -1,4 +1,4 @@
-"""The command to run next, for troubles that have one obvious next step."""
+"""Finds the command to run next, for errors with one obvious next step."""
 
 from __future__ import annotations
 
@@ -9,9 +9,9 @@ from typing import Sequence
 
 from bootmem_tools import kernel_log, log_srat, tool
 
-PROGRAMS = ("bootmem", "bootmem61")  # what the tools run, each a target of the repository
+PROGRAMS = ("bootmem", "bootmem61")  # the programs that the tools run, each a target of the Makefile
 PACKAGE = os.path.dirname(os.path.realpath(__file__))
-# What bootmem-collect writes only for root, and what it writes for everyone.
+# The files that bootmem-collect writes only for root, and those that it writes for everyone.
 ROOT_FILES = ("srat.bin", "slit.bin", "efi.bin", "kernel")
 OTHER_FILES = ("zp.bin", "e820ext.bin", "cmdline")
 
@@ -25,13 +25,13 @@ def top_of_clone() -> str | None:
 
 
 def make(target: str) -> str | None:
-    """Returns the command that makes a target of the repository, or None without one."""
+    """Returns the command that makes a target of the repository, or None outside of one."""
     top = top_of_clone()
     return f"make -C {shlex.quote(top)} {target}" if top else None
 
 
 def make_named(program: str) -> str | None:
-    """Returns the command that makes the program of this path, if it is that of a repository."""
+    """Returns the command that makes the program of this path, or None if no repository makes it."""
     folder, name = os.path.split(os.path.abspath(program))
     is_clone = os.path.isfile(os.path.join(folder, "tools", "collect.sh"))
     if name not in PROGRAMS or not is_clone or os.path.exists(program):
@@ -40,15 +40,16 @@ def make_named(program: str) -> str | None:
 
 
 def collect(folder: str, is_root: bool = False) -> str:
-    """Returns the command that gathers the inputs of the machine that it runs on."""
+    """Returns the command that collects the inputs of the machine that it runs on."""
     top = top_of_clone()
     command = os.path.join(top, "tools", "collect.sh") if top else "bootmem-collect"
     return f"{'sudo ' * is_root}{shlex.quote(command)} {shlex.quote(folder)}"
 
 
 def for_page(name: str, folder: str) -> str:
-    """Returns the next command of a tool of this name for a folder without a zero page: its own for
-    the machines in the folder, or what makes the inputs from a log there, or gathers them."""
+    """Returns the next command after the tool of this name got a folder without a zero page: the tool
+    with the machines in the folder, or the command that makes the inputs from a log there, or the
+    one that collects them."""
     if glob.glob(os.path.join(glob.escape(folder), "*", "zp.bin")):
         return f"{name} {shlex.quote(folder.rstrip('/'))}/*/"
     log = os.path.join(folder, "log")
@@ -69,8 +70,8 @@ def refuse_pageless(name: str, folder: str) -> None:
 
 
 def for_srat(folder: str) -> str:
-    """Returns the command that adds the SRAT to a folder: from a log in it that has one, else from
-    the machine, by root."""
+    """Returns the command that adds the SRAT to a folder: from a log there that has one, or else, run
+    by root, from the machine."""
     log = os.path.join(folder, "log")
     if os.path.isfile(log):
         lines = [kernel_log.clean(line) for line in tool.read_text(log, kind=tool.LOG).splitlines()]
@@ -81,8 +82,8 @@ def for_srat(folder: str) -> str:
 
 
 def for_missing(values: Sequence[str]) -> str | None:
-    """Returns the command that makes the first of these files that isn't there, if its name is one
-    of bootmem-collect's and its folder has others of them; else None."""
+    """Returns the command that makes the first of these files that is missing. Returns None unless
+    bootmem-collect writes a file of this name, and the folder has others of its files."""
     for path in values:
         folder, name = os.path.split(path)
         if os.path.lexists(path) or name not in ROOT_FILES + OTHER_FILES:

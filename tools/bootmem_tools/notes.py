@@ -1,5 +1,5 @@
-"""What a reader should know of a boot beside its reports: an image that doesn't lie in RAM, blocks of the SRAT that overlap, and memory that
-none covers."""
+"""Makes notes on a boot that its reports don't show: an image that isn't all in RAM, blocks of the SRAT that overlap, and memory in none of
+them."""
 
 from __future__ import annotations
 
@@ -11,11 +11,11 @@ from bootmem_tools import ranges
 from bootmem_tools.grammar import read_lines
 from bootmem_tools.reports import Texts, memory_of
 
-FIRST_ENTRY = 48  # of an SRAT
+FIRST_ENTRY = 48  # the offset of an SRAT's first entry
 MEMORY_ENTRY, MEMORY_LENGTH, ENABLED = 1, 40, 1
 LONGEST = 1 << 20  # bytes of a table that the program reads
 MOST = 4  # ranges that a note names
-NARROW = 1  # the last revision of an SRAT whose blocks have domains of 8 bits
+NARROW = 1  # the last revision of an SRAT in which domains have 8 bits
 
 
 class Block(NamedTuple):
@@ -39,13 +39,13 @@ def value_in(words: Sequence[str], option: str) -> str | None:
 
 
 def named(found: Sequence[ranges.Range]) -> str:
-    """Returns the first of the ranges, and how many more there are."""
+    """Returns a text that names the first of the ranges, and how many more there are."""
     text = ", ".join(ranges.range_text(*one) for one in found[:MOST])
     return text + (f" and {len(found) - MOST} more" if len(found) > MOST else "")
 
 
 def place_note(place: str | None, texts: Texts) -> str | None:
-    """Returns a note if the kernel's image at `BASE,SIZE` doesn't lie in RAM of the report `map`, or None."""
+    """Returns a note if the kernel's image at `BASE,SIZE` isn't all in RAM of the report `map`, or None."""
     pair = ranges.parse_pair(place) if place is not None else None
     if pair is None or "map" not in texts:
         return None
@@ -60,7 +60,7 @@ def place_note(place: str | None, texts: Texts) -> str | None:
 
 
 def blocks_of(table: bytes) -> list[Block]:
-    """Returns the blocks of an SRAT by their numbers, empty ones among them (acpi_numa_memory_affinity_init)."""
+    """Returns the blocks of an SRAT in the order of their numbers, including empty ones (acpi_numa_memory_affinity_init)."""
     found, place = [], FIRST_ENTRY
     while place + 2 <= len(table) and table[place + 1] >= 2:
         kind, length = table[place], table[place + 1]
@@ -122,7 +122,7 @@ def uncovered_note(path: str, texts: Texts) -> str | None:
 
 
 def srat_note(path: str | None, texts: Texts) -> str | None:
-    """Returns a note on an SRAT that isn't used since two blocks overlap, or that leaves memory out, by the report `nodes`; else None."""
+    """Returns a note on an SRAT that isn't used because two blocks overlap, or that leaves memory out, by the report `nodes`; else None."""
     if path is None or "nodes" not in texts:
         return None
     return overlap_note(path, texts) or uncovered_note(path, texts)

@@ -1,8 +1,8 @@
-"""Reports as values of JSON: what bootmem-json prints and bootmem-fleet reads.
+"""Turns reports into values of JSON, for bootmem-json and bootmem-fleet.
 
-The form is that of docs/FORMATS.md, "Reports as JSON": an address or a size in bytes is a string
-of 0x and 16 digits, as in the reports, since many readers of JSON cut numbers above 2^53;
-whatever is counted is a number.
+docs/FORMATS.md describes the form ("Reports as JSON"). An address or a size in bytes is a string of
+0x and 16 digits, as in the reports, since many readers of JSON round numbers above 2^53. Counts are
+numbers.
 """
 
 from __future__ import annotations
@@ -21,7 +21,7 @@ NUMBERED = ("node-data", "root", "usage", "map", "script")
 
 
 def fields(found: Mapping[str, str]) -> Object:
-    """Returns the fields of a line with their values: a text, or a number if the field counts."""
+    """Returns the fields of a line with their values: a number if the field is a count, else a text."""
     return {key: text if key in FIELDS else int(text) for key, text in found.items()}
 
 
@@ -37,13 +37,13 @@ def of_rows(lines: Iterator[Line]) -> Value:
 
 
 def of_records(lines: Iterator[Line]) -> Value:
-    """Returns the ranges of a table's records, whose order is that of their numbers."""
+    """Returns the ranges of a table's records in the order of their numbers."""
     return [{"first": line.fields["first"], "last": line.fields["last"]} for line in lines]
 
 
 def of_options(lines: Iterator[Line]) -> Value:
-    """Returns the edits in their order, and what the words ask for of the crash area, of nodes
-    and of the EFI map."""
+    """Returns the edits in their order, and what the words ask for on the crash area, the nodes and
+    the EFI map."""
     edits: list[Object] = []
     crash: Object = {"ranges": [], "high": None, "low": None}
     answer: Object = {"edits": edits, "crash": crash, "numa_off": False, "add_efi": False}
@@ -165,7 +165,7 @@ def of_buddyinfo(lines: Iterator[Line]) -> Value:
 
 
 def of_summary(lines: Iterator[Line]) -> Value:
-    """Returns the numbers of everything."""
+    """Returns the tables' numbers of records and the other counts."""
     answer: Object = {}
     for line in lines:
         found = fields(line.fields)
@@ -176,7 +176,7 @@ def of_summary(lines: Iterator[Line]) -> Value:
     return answer
 
 
-# What makes the value of each report's lines; of the others it is the list of their fields.
+# The function that makes each report's value; for a report that isn't here, it is a list of the fields of each line.
 MAKERS: dict[str, Callable[[Iterator[Line]], Value]] = {
     "options": of_options, "nodes": of_nodes, "memory": of_records, "reserved": of_records,
     "owners": of_owners, "journal": of_journal, "crash": of_crash, "sections": of_sections,
@@ -189,7 +189,7 @@ def as_object(texts: Texts) -> Object:
     """Returns the reports as one object.
 
     # Errors
-    A Trouble if a report isn't known, or with the number of a line that isn't of its form.
+    A Trouble if a report isn't known, or if a line has another form; it names the line's number.
     """
     return {name: MAKERS.get(name, of_rows)(read_lines(name, lines))
             for name, lines in texts.items()}

@@ -1,10 +1,10 @@
-"""The page that bootmem-draw --html writes: the rows of one boot or of two, and what changed
-between them, in page.html beside this module.
+"""Makes the page of bootmem-draw --html: the rows of one boot or of two, and the changes between
+them, put into the text of page.html, which is next to this module.
 
-A page has many rows, so they are short: each is its distance from the row before it, its size,
-and the number of its kind, in hexadecimal, with the first number of its pieces and the step from
-one to the next if they are numbered. A run of neighbouring pieces of one kind, such as free
-blocks of one order or the page structures of sections, is one row.
+A page has many rows, so their form is short. A row is the distance from the row before it, its
+size, and the number of its kind, all in hexadecimal; if its pieces are numbered, also the number of
+the first one and the step to the next. Neighbouring pieces of the same kind, such as free blocks of
+one order or the page structures of sections, make one row.
 """
 
 from __future__ import annotations
@@ -20,12 +20,12 @@ from bootmem_tools.objects import NUMBERED
 from bootmem_tools.ranges import FRAME
 
 PATH = os.path.join(os.path.dirname(os.path.abspath(__file__)), "page.html")
-NONE = -1  # the number of what has none
+NONE = -1  # in place of a number, for pieces without numbers
 
 
 class Kind(NamedTuple):
-    """What rows of one kind have in common: label, colour, what else the report says, and the
-    bytes of a piece or 0."""
+    """What rows of the same kind have in common: label, colour, further text from the report, and
+    the bytes of a piece, or 0."""
 
     label: str
     colour: str
@@ -81,8 +81,8 @@ def run_of(report: str, span: reports.Span) -> Run:
 
 
 def step_to(before: Run, run: Run) -> int | None:
-    """Returns the step of numbers with which a piece goes on the row before it, or None if it is
-    of another kind, apart, or of another number."""
+    """Returns the step between the numbers of the row before and of a piece that continues it, or
+    None if the piece has another kind, isn't adjacent, or hasn't the next number."""
     if before.kind != run.kind or not run.kind.piece or before.last + 1 != run.first:
         return None
     count = (before.last + 1 - before.first) // run.kind.piece
@@ -92,11 +92,11 @@ def step_to(before: Run, run: Run) -> int | None:
 
 
 def joined(runs: Iterable[Run]) -> list[Run]:
-    """Returns the rows, ascending, where neighbouring pieces of one kind are one, if their
-    numbers go up or down by one or they have none.
+    """Returns the rows, ascending. Neighbouring pieces of the same kind become one row if their
+    numbers go up or down by one, or if they have no numbers.
 
-    The lines of owners and blocks ascend, so their pieces come one after another; those of other
-    reports have no pieces.
+    The lines of owners and blocks ascend, so neighbouring pieces are neighbours there. Other reports
+    have no pieces.
     """
     found: list[Run] = []
     for run in runs:
@@ -122,8 +122,7 @@ def lanes_of(runs: Iterable[Run]) -> list[list[Run]]:
 
 
 def lane_text(lane: Iterable[Run], kinds: dict[Kind, int]) -> str:
-    """Returns the rows of a lane, with commas between; each kind gets a number when it comes
-    first."""
+    """Returns the rows of a lane, separated by commas. A kind gets its number with its first row."""
     rows, after = [], 0
     for run in lane:
         kind = kinds.setdefault(run.kind, len(kinds))
@@ -134,8 +133,8 @@ def lane_text(lane: Iterable[Run], kinds: dict[Kind, int]) -> str:
 
 
 def changes_of(boots: Sequence[reports.Texts]) -> dict[str, list[list[str]]]:
-    """Returns by report what changed between two boots: first and last byte, what was there and
-    what is."""
+    """Returns the changes between two boots by report: first and last byte, and what was there before
+    and after."""
     if len(boots) < 2:
         return {}
     both = [report for report in DRAWN if all(report in texts for texts in boots)]
@@ -159,6 +158,6 @@ def page(boots: Sequence[tuple[str, reports.Texts]], title: str | None) -> str:
             "changes": changes_of([texts for _, texts in boots])}
     with open(PATH, encoding="utf-8") as file:
         text = file.read()
-    # a page's text ends at "</", wherever it is
+    # "</" would end the script's text on the page, wherever it is
     data = json.dumps(held, separators=(",", ":"), ensure_ascii=True).replace("<", "\\u003c")
     return text.replace("@DATA@", data)

@@ -18,7 +18,7 @@ Range = tuple[int, int]
 
 
 class Ranged(Protocol):
-    """What has a first and a last byte."""
+    """Anything with a first and a last byte."""
 
     @property
     def first(self) -> int:
@@ -33,13 +33,13 @@ One = TypeVar("One", bound=Ranged)
 
 
 def at(found: Iterable[One], address: int) -> list[One]:
-    """Returns those that have the address."""
+    """Returns those that contain the address."""
     return [one for one in found if one.first <= address <= one.last]
 
 
 def sweep(*lists: Sequence[One]) -> Iterator[tuple[int, int, list[list[One]]]]:
-    """Yields each range between two neighbouring ends of these lists, ascending, with the
-    members of each list that have it."""
+    """Yields each range between two neighbouring ends in these lists, ascending, with the members of
+    each list that contain it."""
     ends = sorted({end for each in lists for one in each for end in (one.first, one.last + 1)})
     waiting = [sorted(each, key=lambda one: one.first, reverse=True) for each in lists]
     active: list[list[One]] = [[] for _ in lists]
@@ -52,7 +52,7 @@ def sweep(*lists: Sequence[One]) -> Iterator[tuple[int, int, list[list[One]]]]:
 
 
 def joined(found: Iterable[Range]) -> list[Range]:
-    """Returns the ranges, ascending; those that touch are one."""
+    """Returns the ranges, ascending, with those that touch or overlap joined."""
     whole: list[Range] = []
     for first, last in sorted(found):
         if whole and first <= whole[-1][1] + 1:
@@ -70,7 +70,7 @@ def without(found: Iterable[Range], first: int, last: int) -> list[Range]:
 
 
 def common(found: Iterable[Range], others: Sequence[Range]) -> list[Range]:
-    """Returns the bytes that both lists of ranges have."""
+    """Returns the ranges of the bytes that both lists have."""
     parts = [(max(low, first), min(high, last)) for low, high in found for first, last in others]
     return joined(part for part in parts if part[0] <= part[1])
 

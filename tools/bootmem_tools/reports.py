@@ -1,4 +1,4 @@
-"""Texts of reports: read from files or from a run, and as spans of addresses."""
+"""Reads texts of reports from files or from a run, and turns them into spans of addresses."""
 
 from __future__ import annotations
 
@@ -16,8 +16,8 @@ MEMORY = ("1", "128")  # the types of the map that are memory
 
 
 class Span(NamedTuple):
-    """A line of a report that names a range: its first and last byte, what it says of it, its
-    kind and fields, and the line itself."""
+    """A line of a report that names a range: the first and last byte, a name for the range, the
+    line's kind and fields, and the line itself."""
 
     first: int
     last: int
@@ -28,8 +28,8 @@ class Span(NamedTuple):
 
 
 def read_reports(path: str, behind: bool = False) -> Texts:
-    """Returns the reports of a file, or of standard input (`-`); `behind` says that the
-    program's words may stand after `--`.
+    """Returns the reports of a file, or of standard input (`-`). `behind` means that the error may
+    propose the program's words after `--` instead.
 
     # Errors
     A Trouble if there is no report in it.
@@ -42,15 +42,15 @@ def read_reports(path: str, behind: bool = False) -> Texts:
 
 
 def judge_reports(first: bytes) -> str | None:
-    """Returns why a text that begins with these bytes has no report, or None if its first line
-    is one of a report or names one."""
+    """Returns why a text that begins with these bytes has no report, or None if its first line names
+    a report or is a line of one."""
     line = first[:4096].split(b"\n")[0].decode("utf-8", "replace")
     is_one = line.startswith("== ") or grammar.report_of(line.rstrip("\r"))
     return None if is_one else "no report of bootmem in it"
 
 
 def refuse_empty_map(texts: Texts, where: str) -> None:
-    """Refuses a report `map` without a line: the program never prints one, so whatever should have written it failed.
+    """Refuses a report `map` without lines. The program never prints one, so whatever should have written it failed.
 
     # Errors
     A Trouble that names where the map comes from.
@@ -60,8 +60,8 @@ def refuse_empty_map(texts: Texts, where: str) -> None:
 
 
 def split_reports(text: str) -> Texts:
-    """Returns the reports of a text, which its lines `== NAME` name; one report without such a
-    line is known by its first line."""
+    """Returns the reports of a text by their names, which are in its lines `== NAME`. A single report
+    without such a line is recognized by its first line."""
     lines = text.splitlines()
     reports: Texts = {}
     if lines and lines[0].startswith("== "):
@@ -81,7 +81,7 @@ def spans(name: str, texts: Iterable[str]) -> list[Span]:
     """Returns the lines of a report that name a range.
 
     # Errors
-    A Trouble with the number of a line that isn't of the report's form.
+    A Trouble if a line isn't of the report's form; it names the line's number.
     """
     found = []
     for line in grammar.read_lines(name, texts):
@@ -112,7 +112,7 @@ def range_of(name: str, fields: Mapping[str, str]) -> Range | None:
 
 
 def value_of(name: str, fields: Mapping[str, str]) -> str:
-    """Returns what a line with these fields says of its range, in a few words."""
+    """Returns what a line with these fields says about its range, in a few words."""
     if name == "map":
         return f"type {fields['type']}" if fields["name"] == "other" else fields["name"]
     if name == "owners":
@@ -127,12 +127,12 @@ def value_of(name: str, fields: Mapping[str, str]) -> str:
 
 
 def memory_of(texts: Texts) -> list[Range]:
-    """Returns the ranges of memory of the report `map`, neighbours joined."""
+    """Returns the ranges of memory in the report `map`, with neighbours joined."""
     return joined((run.first, run.last) for run in spans("map", texts["map"])
                   if run.fields["type"] in MEMORY)
 
 
 def crash_ranges(texts: Iterable[str]) -> list[Range]:
-    """Returns the crash area and its low part by the lines of the report `crash`, ascending;
-    none if nothing is claimed."""
+    """Returns the crash area and its low part from the lines of the report `crash`, ascending; the
+    list is empty if nothing is claimed."""
     return sorted((span.first, span.last) for span in spans("crash", texts))

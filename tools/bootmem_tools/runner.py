@@ -1,4 +1,4 @@
-"""Runs of the programs bootmem and bootmem61: finding them, and their reports for words."""
+"""Finds and runs the programs bootmem and bootmem61, and reads their reports."""
 
 from __future__ import annotations
 
@@ -14,7 +14,7 @@ from bootmem_tools.reports import Texts, split_reports
 from bootmem_tools.tool import Trouble, complain
 
 STOPPED = 6  # the status of a boot that stops
-PLACELESS = {"map", "options", "nodes"}  # reports that don't go by the kernel's place
+PLACELESS = {"map", "options", "nodes"}  # reports that don't depend on the kernel's place
 ASSUMED = ("the kernel's place isn't known, so 16 MiB to 48 MiB is assumed; "
            "--kernel BASE,SIZE tells it")
 OWN, LINUX = "bootmem", "bootmem61"  # the programs: the second has the profile of Linux 6.1
@@ -35,7 +35,7 @@ def add_program(parser: argparse.ArgumentParser, name: str = OWN) -> None:
 
 def find_program(named: str | None = None, name: str = OWN) -> str:
     """Returns the path of the program of this name: the named one, else $BOOTMEM or $BOOTMEM61,
-    else one beside the tools or above them in a clone, else on the PATH.
+    else the one next to the tools, or at the top of their clone, else the one on the PATH.
 
     # Errors
     A Trouble if there is none, or if the named one can't be run.
@@ -63,16 +63,16 @@ def find_program(named: str | None = None, name: str = OWN) -> str:
 
 
 def name_in(said: str) -> str:
-    """Returns the name of the program that said this on standard error."""
+    """Returns the name of the program that printed this on standard error."""
     return LINUX if said.startswith(f"{LINUX}: ") else OWN
 
 
 def call_program(program: str, names: Sequence[str], words: Sequence[str],
                  folder: str | None = None) -> tuple[int, str, str]:
-    """Returns status, standard output and line of a run that asks for these reports; the words
-    mustn't have --report.
+    """Runs the program for these reports; the words mustn't have --report. Returns its status, its
+    standard output and its line on standard error.
 
-    Standard input is the program's, since a word may be /dev/stdin.
+    The program gets this process's standard input, since a word may be /dev/stdin.
     """
     if any(word == "--report" or word.startswith("--report=") for word in words):
         raise Trouble("this tool asks for its own reports: "
@@ -87,7 +87,7 @@ def texts_of(names: Sequence[str], text: str) -> Texts:
     """Returns the reports that a run for these names printed.
 
     # Errors
-    A Trouble if one of several is missing: what ran isn't bootmem.
+    A Trouble if one of several is missing, since the program isn't bootmem then.
     """
     found = split_reports(text) if len(names) > 1 else {names[0]: text.splitlines()}
     missing = [name for name in names if name not in found]
@@ -97,7 +97,7 @@ def texts_of(names: Sequence[str], text: str) -> Texts:
 
 
 class Failed(Trouble):
-    """The trouble of a run that ended with this status and what it said on standard error."""
+    """The error of a run that failed, with its status and its line on standard error."""
 
     def __init__(self, ended: int, said: str) -> None:
         super().__init__(f"the program ended with status {ended}: {said or 'it said nothing'}")
@@ -119,11 +119,11 @@ def run_program(program: str, names: Sequence[str], words: Sequence[str],
 
 def run_or_stop(program: str, names: Sequence[str], words: Sequence[str],
                 folder: str | None = None) -> Stopped:
-    """Returns the reports of these names and None, or no report and the program's line if the
-    boot stops.
+    """Returns the reports of these names and None. If the boot stops, returns no report and the
+    program's line.
 
     # Errors
-    A Trouble if the program ends with another status than 0 and that of a stop.
+    A Trouble if the program's status is neither 0 nor that of a stop.
     """
     status, text, said = call_program(program, names, words, folder)
     if status == STOPPED:
@@ -134,15 +134,15 @@ def run_or_stop(program: str, names: Sequence[str], words: Sequence[str],
 
 
 def is_place_assumed(names: Iterable[str], words: Iterable[str]) -> bool:
-    """Returns whether one of these reports goes by the kernel's place, and the program's words
-    don't have it."""
+    """Returns whether one of these reports depends on the kernel's place, but the program's words
+    don't give it."""
     has_place = any(word == "--kernel" or word.startswith("--kernel=") for word in words)
     return not has_place and not PLACELESS.issuperset(names)
 
 
 def run_for(tool: str, program: str, names: Sequence[str], words: Sequence[str]) -> Texts:
-    """Returns what `run_program` does, for a tool whose words are its user's: it says if the kernel's
-    place is assumed or isn't RAM, and which memory no block of the SRAT covers."""
+    """Returns what `run_program` does, for words that a tool's user gave. It prints a note if the
+    kernel's place is assumed or isn't RAM, and on memory in no block of the SRAT."""
     found = run_program(program, names, words)
     for note in notes.notes_for(words, found):
         complain(tool, note)

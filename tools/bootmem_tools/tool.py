@@ -1,5 +1,5 @@
-"""How each tool reads its words and its input, writes its files, and ends: one line on standard
-error and a status."""
+"""The parts that all tools share: reading words and inputs, writing files, and ending with a status
+and, after an error, one line on standard error."""
 
 from __future__ import annotations
 
@@ -19,9 +19,9 @@ from typing import BinaryIO, Callable, Mapping, NamedTuple, NoReturn, Optional, 
 from bootmem_tools import compressed
 
 VERSION = "0.1.0"
-WIDTH = 80  # of help, in letters
-LONGEST = 1 << 30  # bytes of a text: the report blocks of 16 TiB in single frames has half as many
-SHORT = 60  # letters of a line that an error quotes
+WIDTH = 80  # letters in a line of help
+LONGEST = 1 << 30  # bytes of a text: twice the length of the report blocks of 16 TiB in single frames
+SHORT = 60  # letters of a line that an error quotes at most
 
 BEHIND = ", or put the program's own words after --"
 UNPROVED = ("This tool isn't proved: it only reads what the proved program prints, or writes what it "
@@ -29,8 +29,8 @@ UNPROVED = ("This tool isn't proved: it only reads what the proved program print
 
 
 class Trouble(Exception):
-    """Why a tool ends: one line for standard error, the exit status where it isn't the tool's own,
-    and the command to run next if there is an obvious one."""
+    """An error that ends a tool: one line for standard error, the exit status if it isn't the tool's
+    usual one, and the command to run next if there is an obvious one."""
 
     def __init__(
         self, message: str, status: int | None = None, next_command: str | None = None
@@ -41,8 +41,8 @@ class Trouble(Exception):
 
 
 def run_tool(name: str, main: Callable[[list[str]], int], failure: int = 1) -> NoReturn:
-    """Ends the process with the status of main(words); a Trouble is one line on standard error,
-    and the status `failure`."""
+    """Ends the process with the status of main(words). For a Trouble it prints one line on standard
+    error and ends with the status `failure`, unless the Trouble has its own."""
     open_missing()
     if hasattr(signal, "SIGPIPE"):
         signal.signal(signal.SIGPIPE, signal.SIG_DFL)
@@ -62,12 +62,12 @@ def run_tool(name: str, main: Callable[[list[str]], int], failure: int = 1) -> N
     except KeyboardInterrupt:
         status = 130
     if status:
-        os._exit(status)  # what couldn't be written has been told
+        os._exit(status)  # without flushing: the error of writing has been printed
     sys.exit(0)
 
 
 def open_missing() -> None:
-    """Gives a process whose output or standard error is closed one that fails, or one that is passed over."""
+    """Opens standard output, if it is closed, so that writing fails, and standard error so that writing is ignored."""
     if sys.stdout is None:
         sys.stdout = open(os.open(os.devnull, os.O_RDONLY), "w", encoding="utf-8")  # each write is an error
     if sys.stderr is None:
@@ -80,8 +80,8 @@ def complain(name: str, message: str) -> None:
 
 
 def complain_of(name: str, trouble: Exception, of: str = "") -> None:
-    """Prints why something failed as one line, after what it is of, and a line `next:` with the
-    command to run next if the trouble has one."""
+    """Prints why something failed as one line, after the text `of`, and a line `next:` if there is a
+    command to run next."""
     complain(name, f"{of}{trouble}")
     say_next(trouble.next_command if isinstance(trouble, Trouble) else None)
 
@@ -105,38 +105,38 @@ class Progress:
             print(f"\r\x1b[K{self.name}: {printable(text)}", end="", file=sys.stderr, flush=True)
 
     def clear(self) -> None:
-        """Takes the line away."""
+        """Removes the line."""
         if self.shown:
             print("\r\x1b[K", end="", file=sys.stderr, flush=True)
 
 
 def printable(text: str) -> str:
-    """Returns the text with what a terminal would act on, or standard error can't encode, as
-    escapes."""
-    if text.isprintable():  # as nearly all is, and it is asked for each line of --explain
+    """Returns the text with escapes in place of letters that a terminal would act on or that standard
+    error can't encode."""
+    if text.isprintable():  # the usual case, which must be fast for the many lines of --explain
         return text
     return "".join(letter if letter.isprintable() else letter.encode("unicode_escape").decode()
                    for letter in text)
 
 
 def quoted(line: str) -> str:
-    """Returns a line as an error quotes it: in quotation marks, with escapes, and cut where it
-    is long."""
+    """Returns a line as an error quotes it: in quotation marks, with escapes, and cut if it is
+    long."""
     return repr(line) if len(line) <= SHORT else repr(line[:SHORT]) + ".."
 
 
 class Help(argparse.RawDescriptionHelpFormatter):
-    """Help whose text keeps its lines."""
+    """A formatter of help that keeps the lines of texts."""
 
     def __init__(self, prog: str) -> None:
         super().__init__(prog, max_help_position=28, width=WIDTH)
 
 
 class Parser(argparse.ArgumentParser):
-    """A parser of a tool's words, whose errors are one line."""
+    """A parser of a tool's words that prints an error as one line."""
 
     def error(self, message: str) -> NoReturn:
-        """Ends with status 2 and one line."""
+        """Prints one line and ends with status 2."""
         complain(self.prog, f"{message} ({self.prog} --help tells the words)")
         sys.exit(2)
 
@@ -150,7 +150,7 @@ def filled(text: str) -> str:
 
 
 def new_parser(name: str, usage: str, description: str, epilog: str) -> Parser:
-    """Returns a parser of a tool's words, whose help ends with what holds for every tool."""
+    """Returns a parser of a tool's words. Its help ends with what is the same for all tools."""
     parser = Parser(prog=name, usage=usage, description=filled(description),
                     epilog=filled(f"{epilog}\n\n{UNPROVED}"), formatter_class=Help, allow_abbrev=False)
     parser.add_argument("--version", action="version", version=f"{name} {VERSION}",
@@ -168,8 +168,8 @@ def split_words(words: Sequence[str]) -> tuple[list[str], list[str] | None]:
 
 
 def parse_own(parser: Parser, own: list[str], program_words: list[str] | None) -> argparse.Namespace:
-    """Returns the tool's own words as they were parsed; if one is unknown and there are no words of the program, the error says where these
-    come."""
+    """Returns the tool's own words, parsed. If one is unknown and there are no words of the program, the error says that these come after
+    `--`."""
     given, unknown = parser.parse_known_args(own)
     if unknown:
         where = "" if program_words is not None else "; the program's own words come after --"
@@ -182,14 +182,14 @@ def shown_name(path: str) -> str:
     return "standard input" if path == "-" else path
 
 
-# What judges the first bytes of a file: why the rest isn't worth reading, or None.
+# Checks the first bytes of a file: returns why the rest shouldn't be read, or None.
 Judge = Callable[[bytes], Optional[str]]
 
 
 class Kind(NamedTuple):
     """What a file should be: its name for errors, its greatest length in bytes, whether it is a
-    text, what judges its first bytes, and whether it may be compressed; the others are then of what
-    it has."""
+    text, the check of its first bytes, and whether it may be compressed. The length and the checks
+    are then those of the unpacked content."""
 
     what: str
     limit: int
@@ -204,7 +204,7 @@ LOG = Kind("text of a log", 64 << 20, may_be_compressed=True)
 
 
 def read_limited(file: BinaryIO, name: str, kind: Kind, hint: str = "") -> bytes:
-    """Returns all bytes of a file, up to the limit of its kind; a hint goes into the error.
+    """Returns all bytes of a file, up to the limit of its kind; a hint is added to the error.
 
     # Errors
     A Trouble if there are more bytes than the limit, if a text has a zero byte, or if its first
@@ -270,8 +270,8 @@ def read_whole(file: BufferedReader, path: str, kind: Kind, hint: str) -> bytes:
 
 
 def read_text(path: str, behind: bool = False, kind: Kind = TEXT) -> str:
-    """Returns the text of a file, or of standard input if the path is `-`; `behind` says that
-    the program's words may stand after `--`.
+    """Returns the text of a file, or of standard input if the path is `-`. `behind` means that an
+    error may propose the program's words after `--` instead.
 
     # Errors
     A Trouble if standard input is a terminal, or as `read_limited`.
@@ -283,10 +283,10 @@ def read_text(path: str, behind: bool = False, kind: Kind = TEXT) -> str:
 
 
 def write_files(files: Mapping[str, bytes]) -> None:
-    """Writes all of these files or, if one can't be written, none: each under a name of its own
-    first, then all are renamed.
+    """Writes all of these files or, if one can't be written, none. Each is first written under a
+    temporary name; then all are renamed.
 
-    What isn't a plain file, such as a device, is written as it is.
+    What isn't a plain file, such as a device, is written directly.
     """
     made: dict[str, str] = {}
     with contextlib.ExitStack() as undo:
@@ -316,7 +316,7 @@ def refuse_over(outputs: Sequence[str], read: Sequence[str]) -> None:
     """Refuses to write over a file that is read.
 
     # Errors
-    A Trouble for the first output that is one of them; devices may be both.
+    A Trouble for the first output that is also an input; a device may be both.
     """
     files = {os.path.realpath(path) for path in read if os.path.isfile(path)}
     for path in outputs:
@@ -325,7 +325,7 @@ def refuse_over(outputs: Sequence[str], read: Sequence[str]) -> None:
 
 
 def mode_of(path: str) -> int:
-    """Returns the mode of a file that is there, or that of a new one."""
+    """Returns the mode of a file, or the mode of a new file if it doesn't exist."""
     if os.path.exists(path):
         return stat.S_IMODE(os.stat(path).st_mode)
     mask = os.umask(0)
@@ -340,7 +340,7 @@ def remove_quietly(path: str) -> None:
 
 
 def write_output(text: str, path: str | None = None) -> None:
-    """Writes a text to a file whole or not at all, or to standard output if the path is None or
+    """Writes a text to a file, whole or not at all, or to standard output if the path is None or
     `-`."""
     if path in (None, "-"):
         sys.stdout.buffer.write(text.encode("utf-8", "surrogateescape"))

@@ -1,4 +1,4 @@
-"""bootmem-where: what becomes of one address, by the reports of bootmem."""
+"""bootmem-where: prints what the reports of bootmem say about one address."""
 
 from __future__ import annotations
 
@@ -6,7 +6,7 @@ from typing import Iterator, NoReturn
 
 from bootmem_tools import as_linux, linux_claims, ranges, reports, runner, tool
 
-# What the lines of an answer say: a word and a text each.
+# The lines of an answer, each a word and a text.
 Sayings = Iterator[tuple[str, str]]
 Spans = list[reports.Span]
 
@@ -61,15 +61,15 @@ def read_words(words: list[str]) -> tuple[int, reports.Texts, list[linux_claims.
 
 
 def last_step(steps: Spans, address: int) -> reports.Span | None:
-    """Returns the newest claim or free of the journal that has the address, which decides its
-    owner; None if there is none."""
+    """Returns the newest claim or free in the journal whose range has the address, or None. It
+    decides the owner."""
     deciding = [step for step in ranges.at(steps, address) if step.kind in ("claim", "free")]
     return deciding[-1] if deciding else None
 
 
 def owner_lines(owners: Spans | None, steps: Spans | None, tables: Spans | None, address: int) -> Sayings:
-    """Yields the lines of who owns the address, since which step, and of the table of memblock
-    that lies there."""
+    """Yields the lines on the address's owner, the step that claimed it, and the table of memblock
+    there."""
     holder = ranges.at(owners or [], address)
     if owners is not None:
         yield "owner", f"{holder[0].name} {ranges.range_text(*holder[0][:2])}" if holder else "none"
@@ -84,8 +84,8 @@ def owner_lines(owners: Spans | None, steps: Spans | None, tables: Spans | None,
 
 
 def place_lines(found: dict[str, Spans], address: int) -> Sayings:
-    """Yields the lines of node, zone and section; a span may have holes, so addresses without
-    memory have them, too."""
+    """Yields the lines on node, zone and section. A span may have holes, so addresses without memory
+    have these lines, too."""
     if "nodes" in found:
         node = ranges.at(found["nodes"], address)
         yield "node", f"{node[-1].fields['node']} {ranges.range_text(*node[-1][:2])}" if node else "none"
@@ -105,8 +105,8 @@ def place_lines(found: dict[str, Spans], address: int) -> Sayings:
 
 
 def section_text(section: reports.Span, address: int) -> str:
-    """Returns a section's number and node, the place of its map, and of the page structure of
-    the address's frame."""
+    """Returns a text with a section's number and node, and the places of its map and of the page
+    structure of the address's frame."""
     place = int(section.fields["map"], 16)
     page = place + (address - section.first) // ranges.FRAME * 64
     return (f"{section.fields['section']} of node {section.fields['node']}, map at {ranges.hex_text(place)}, "
@@ -114,7 +114,7 @@ def section_text(section: reports.Span, address: int) -> str:
 
 
 def answer_lines(address: int, found: dict[str, Spans]) -> Sayings:
-    """Yields the lines of what the reports say of the address, each a word and a text."""
+    """Yields the lines on what the reports say about the address."""
     yield "address", f"{ranges.hex_text(address)} ({ranges.size_text(address)}), frame {address // ranges.FRAME}"
     if "map" in found:
         entry = ranges.at(found["map"], address)
@@ -130,7 +130,7 @@ def answer_lines(address: int, found: dict[str, Spans]) -> Sayings:
 
 
 def main(words: list[str]) -> int:
-    """Prints what becomes of the address."""
+    """Prints the lines on the address."""
     address, texts, claims = read_words(words)
     found = {name: reports.spans(name, lines) for name, lines in texts.items() if name in WANTED}
     if not found:

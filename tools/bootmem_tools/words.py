@@ -1,4 +1,4 @@
-"""The words of bootmem, bootmem61 and bootaudit, as words.txt beside this module lists them."""
+"""The words of bootmem, bootmem61 and bootaudit, from the file words.txt next to this module."""
 
 from __future__ import annotations
 
@@ -9,7 +9,7 @@ PATH = os.path.join(os.path.dirname(os.path.abspath(__file__)), "words.txt")
 
 
 def read_words(kind: str) -> dict[str, str]:
-    """Returns the words of a kind with what follows each of them, in the order of the file."""
+    """Returns the words of a kind, each with the rest of its line, in the order of the file."""
     found = {}
     with open(PATH, encoding="utf-8") as file:
         for line in file:
@@ -19,15 +19,15 @@ def read_words(kind: str) -> dict[str, str]:
     return found
 
 
-OPTIONS = read_words("option")  # the options of bootmem with what their value is, empty for a flag
+OPTIONS = read_words("option")  # the options of bootmem with the form of their value, empty for a flag
 REPORTS = tuple(read_words("report"))
 INPUTS = tuple(read_words("input"))
 AUDIT_OPTIONS = tuple(read_words("audit"))
 
 
 class Command(NamedTuple):
-    """The words of a program: its name, its options with what their value is, its reports, and its inputs in the order in which it reads
-    them."""
+    """The words of a program: its name, its options with the form of their value, its reports, and its inputs in the order in which it
+    reads them."""
 
     name: str
     options: dict[str, str]
@@ -36,7 +36,7 @@ class Command(NamedTuple):
 
 
 def inputs61() -> tuple[str, ...]:
-    """Returns the inputs of bootmem61: those of bootmem, and each of its own after the one that it follows."""
+    """Returns the inputs of bootmem61: those of bootmem, with each of its own after the input that it follows."""
     found = list(INPUTS)
     for name, before in read_words("input61").items():
         found.insert(found.index(before) + 1, name)

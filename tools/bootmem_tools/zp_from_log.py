@@ -69,7 +69,7 @@ example:
   bootmem --report map --e820ext ext.bin zp.bin
   dmesg | zp-from-log --folder here"""
 
-# What a folder of bootmem-collect has, with what each file is.
+# The files in a folder of bootmem-collect, each with its description.
 FILES = {
     "zp.bin": "zero page",
     "e820ext.bin": "the E820 extension",
@@ -126,8 +126,8 @@ def read_words(words: list[str]) -> argparse.Namespace:
 
 
 def choose_initrd(given: argparse.Namespace, boot: boot_sources.Boot) -> Initrd | None:
-    """Returns the initrd of the words or of the sources, with a line on standard error if neither
-    has one."""
+    """Returns the initrd from the words or from the sources. Prints a line on standard error if
+    neither has one."""
     if given.no_initrd or given.initrd:
         named: Optional[Initrd] = given.initrd
         return named
@@ -137,7 +137,7 @@ def choose_initrd(given: argparse.Namespace, boot: boot_sources.Boot) -> Initrd 
 
 
 def check_entries(entries: Sequence[Entry], has_extension: bool) -> None:
-    """Refuses a map that no zero page and extension can have."""
+    """Refuses a map that doesn't fit into a zero page and an extension."""
     if not entries:
         raise tool.Trouble("no line 'BIOS-e820: [mem 0x..-0x..] type', and no line 'base size type'")
     if len(entries) < 2:
@@ -149,7 +149,7 @@ def check_entries(entries: Sequence[Entry], has_extension: bool) -> None:
 
 
 def files_of(boot: boot_sources.Boot, initrd: Initrd | None) -> dict[str, bytes]:
-    """Returns all files that the sources tell, by their names in a folder."""
+    """Returns all files that the sources give, by their names in a folder."""
     found = {"zp.bin": inputs.zero_page(boot.entries[:ROOM], initrd), **boot.files}
     if boot.entries[ROOM:]:
         found["e820ext.bin"] = inputs.extension(boot.entries[ROOM:])
@@ -164,7 +164,7 @@ def named_files(given: argparse.Namespace, boot: boot_sources.Boot, found: dict[
     """Returns the files that the words name.
 
     # Errors
-    A Trouble if the sources don't tell one of them.
+    A Trouble if the sources don't give one of them.
     """
     files = {given.output: found["zp.bin"]}
     if given.e820ext is not None:
@@ -181,7 +181,7 @@ def named_files(given: argparse.Namespace, boot: boot_sources.Boot, found: dict[
 
 
 def write_folder(folder: str, found: dict[str, bytes]) -> None:
-    """Writes the files of a folder, removes those that aren't told, and prints what was written
+    """Writes the files of a folder, removes the others of FILES there, and prints what was written
     and the command to run next."""
     os.makedirs(folder, exist_ok=True)
     tool.write_files({os.path.join(folder, name): data for name, data in found.items()})
@@ -200,7 +200,7 @@ def write_folder(folder: str, found: dict[str, bytes]) -> None:
 
 
 def main(words: list[str]) -> int:
-    """Writes the zero page, and what else is named or told."""
+    """Writes the zero page and the other files that the words name, or all files of a folder."""
     given = read_words(words)
     sources = given.sources or ["-"]
     named = [path for path in (given.output, given.e820ext, given.srat, given.efi) if path is not None]
