@@ -1,5 +1,5 @@
 #!/bin/sh
-# collect.sh: gathers what this machine's kernel was given at boot; --help says how.
+# collect.sh: collects the inputs that this machine's kernel got at boot; --help has the details.
 set -u
 unset CDPATH
 me=${0##*/}
@@ -97,25 +97,25 @@ folder=$1
 cmdline=${cmdline:-$proc/cmdline}
 mkdir -p "$folder" || exit 1
 folder=$(cd "$folder" && pwd) || exit 1
-# what an earlier run left would be taken for this machine's
+# files that an earlier run left would be taken for this machine's
 for name in zp.bin e820ext.bin cmdline srat.bin efi.bin slit.bin release kernel pages iomem zoneinfo buddyinfo; do
 	rm -f "$folder/$name" || exit 1
 done
 
-# no file that a kernel shows is longer, in bytes; it may be one that never ends
+# limit in bytes: no file that a kernel shows is longer, but a path may name a file that never ends
 most=67108864
 
-# first FILE: its first bytes, one more than any file may have
+# first FILE: prints its first bytes, up to one more than the limit
 first() {
 	head -c $((most + 1)) "$1"
 }
 
-# size NAME: the number of bytes of a file of the folder
+# size NAME: prints the number of bytes of a file in the folder
 size() {
 	wc -c <"$folder/$1" | tr -d ' '
 }
 
-# take FILE NAME WHAT: copies the file, or says that it couldn't
+# take FILE NAME WHAT: copies the file, or complains and fails
 take() {
 	if [ ! -e "$1" ]; then
 		complain "$2: no $3 here ($1)"
@@ -134,7 +134,7 @@ take() {
 	fi
 }
 
-# number N: N as a little-endian u32
+# number N: prints N as a little-endian u32
 number() {
 	left=$1
 	for _ in 1 2 3 4; do
@@ -144,7 +144,7 @@ number() {
 	done
 }
 
-# little HEX: the number 0xHEX in 8 bytes, the lowest first; a shell's own numbers end at 2^63
+# little HEX: prints the number 0xHEX as a little-endian u64; it works on digits, since a shell's numbers end at 2^63
 little() {
 	digits=$(printf '%s' "0000000000000000${1#0x}" | sed 's/.*\(.\{16\}\)$/\1/')
 	while [ -n "$digits" ]; do
@@ -155,12 +155,12 @@ little() {
 	done
 }
 
-# word FILE: the first line of a file of one number
+# word FILE: prints the first line of a file with one number
 word() {
 	head -c 64 "$1" 2>/dev/null | tr -d '\0' | head -n 1 | grep .
 }
 
-# The descriptors that the kernel shows, of 48 bytes each; where they lie in its own addresses is left out.
+# Writes efi.bin with the descriptors that the kernel shows, of 48 bytes each. Their virtual addresses are 0.
 descriptors() {
 	shown=$sys/firmware/efi/runtime-map
 	[ -d "$shown" ] || return 0
@@ -186,7 +186,7 @@ descriptors() {
 	complain "efi.bin: the kernel shows no other descriptors; the log of a boot with efi=debug has all of them (zp-from-log --efi)"
 }
 
-# The data of all nodes of type 1 (SETUP_E820_EXT), in their order, behind one header: next 0, type 1, length.
+# Writes e820ext.bin: one header (next 0, type 1, length), and after it the data of all nodes of type 1 (SETUP_E820_EXT), in their order.
 extension() {
 	data=$(mktemp) || return 1
 	nodes=0
@@ -215,7 +215,7 @@ extension() {
 	rm -f "$data"
 }
 
-# The place of the kernel's image by iomem, whose lines ascend; without root its addresses are all 0.
+# Writes the place of the kernel's image from iomem, whose lines ascend. It fails without root, since all addresses are 0 then.
 place() {
 	first=$(sed -n 's/^ *\([0-9a-f]*\)-[0-9a-f]* : Kernel code$/\1/p' "$folder/iomem" | head -n 1)
 	last=$(sed -n 's/^ *[0-9a-f]*-\([0-9a-f]*\) : Kernel [a-z]*$/\1/p' "$folder/iomem" | tail -n 1)
@@ -225,7 +225,7 @@ place() {
 	echo "kernel: the place of its image, $(cat "$folder/kernel")"
 }
 
-# What the kernel shows of itself: resources where they have addresses, zones, free blocks.
+# Copies what the kernel shows in /proc: resources, unless their addresses are hidden, zones and free blocks.
 shows() {
 	if [ -e "$proc/iomem" ] && ! first "$proc/iomem" 2>/dev/null | grep -aq '^ *[0-9a-f-]*[1-9a-f][0-9a-f-]* : '; then
 		complain "iomem: $proc/iomem hides its addresses; try it as root"
@@ -245,7 +245,7 @@ shows() {
 	take "$proc/buddyinfo" buddyinfo "free blocks"
 }
 
-# quoted WORD: the word as a shell reads it
+# quoted WORD: prints the word, quoted for a shell if that is needed
 quoted() {
 	case $1 in
 	*[!A-Za-z0-9_./+:@%-]*) printf "'%s'" "$(printf '%s' "$1" | sed "s/'/'\\\\''/g")" ;;
@@ -253,7 +253,7 @@ quoted() {
 	esac
 }
 
-# The command that runs the program on what was gathered.
+# Prints the command that runs the program on the collected files.
 next() {
 	printf '%s' "next: cd $(quoted "$folder") && bootmem"
 	[ ! -f "$folder/cmdline" ] || printf ' --cmdline cmdline'

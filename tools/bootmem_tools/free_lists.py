@@ -1,5 +1,5 @@
-"""free-lists: the free lists of a real kernel at handover, read by a debugger under QEMU, and
-their comparison with bootmem's."""
+"""free-lists: reads the free lists of a real kernel at handover with a debugger under QEMU, and
+compares them with bootmem's."""
 
 import argparse
 import json
@@ -53,8 +53,8 @@ SECTION = ranges.SECTION
 
 
 class Machine(NamedTuple):
-    """Inputs of bootmem with which it makes a kernel's claims: the files by their names. The
-    kernel has the answers of its log, too."""
+    """Inputs with which bootmem makes a kernel's claims, as files by their names; and the kernel,
+    with the answers from its log added."""
 
     files: Dict[str, bytes]
     kernel: lists.Kernel
@@ -69,10 +69,10 @@ class Span(NamedTuple):
 
 
 def read_dump(dump: Dict[str, Any]) -> lists.Kernel:
-    """What gdb's part wrote, as `kernel.txt` has it.
+    """The kernel that gdb's part read, in the form of `kernel.txt`.
 
     # Errors
-    Trouble: a page in a list isn't what the list says."""
+    Trouble: a page in a list doesn't match the list."""
     if dump["faults"]:
         raise tool.Trouble(
             f"the lists contradict themselves {len(dump['faults'])} times: {dump['faults'][0]}"
@@ -119,11 +119,11 @@ def lines_of(log: str) -> List[str]:
 
 
 def surplus_at_growth(lines: Sequence[str]) -> List[int]:
-    """By how many records the kernel's reserved table is longer than one without nodes, at each of
-    its growths after nodes were set.
+    """By how many records the kernel's reserved table is longer than one without nodes, each time that
+    it grows after nodes were set.
 
-    The program's table has no nodes; where the kernel's grows, the program's must be as long,
-    so that it grows at the same claim."""
+    The program's table has no nodes. It must be as long as the kernel's when that grows, so that it
+    grows at the same claim."""
     last = max(
         (at for at, line in enumerate(lines) if "MEMBLOCK configuration:" in line), default=0
     )
@@ -156,7 +156,7 @@ def surplus_at_growth(lines: Sequence[str]) -> List[int]:
 
 
 def merged(ranges: Iterable[Tuple[int, int]]) -> List[Tuple[int, int]]:
-    """The ranges, ascending, with those that touch as one; each is its first byte and one past
+    """The ranges, ascending, with those that touch joined. Each is its first byte and the byte past
     its last."""
     return [
         (first, last + 1)
@@ -167,7 +167,7 @@ def merged(ranges: Iterable[Tuple[int, int]]) -> List[Tuple[int, int]]:
 def merged_noded(
     ranges: Iterable[Tuple[int, int, Optional[int]]]
 ) -> List[Tuple[int, int, Optional[int]]]:
-    """The ranges, ascending, with those that touch as one if they have the same node."""
+    """The ranges, ascending, with those joined that touch and have the same node."""
     found: List[Tuple[int, int, Optional[int]]] = []
     for start, end, node in sorted(ranges, key=lambda one: one[0]):
         if found and found[-1][1] == start and found[-1][2] == node:
@@ -180,7 +180,7 @@ def merged_noded(
 def cut(
     ranges: Iterable[Tuple[int, int]], holes: Iterable[Tuple[int, int]]
 ) -> List[Tuple[int, int]]:
-    """The ranges without what the holes have."""
+    """The parts of the ranges outside the holes."""
     left = list(ranges)
     for first, end in merged(holes):
         left = [
@@ -196,7 +196,7 @@ def memory_spans(kernel: lists.Kernel) -> List[Span]:
     """The kernel's memory with its nodes.
 
     # Errors
-    Trouble: a record ends inside a frame, which bootmem has in no node."""
+    Trouble: a record ends inside a frame. bootmem has such a frame in no node."""
     spans = [
         Span(record.first, record.last + 1, record.node or 0) for record in kernel.memory.records
     ]
@@ -210,8 +210,8 @@ def memory_spans(kernel: lists.Kernel) -> List[Span]:
 
 
 def own_room(spans: Sequence[Span], start: int) -> List[Span]:
-    """Memory above the kernel's, for what bootmem claims by itself in each node: node data,
-    roots, usage data and maps."""
+    """Memory above the kernel's for bootmem's own claims in each node: node data, roots, usage data and
+    maps."""
     found = []
     for node in sorted({span.node for span in spans}):
         sections = {
@@ -230,7 +230,7 @@ def own_room(spans: Sequence[Span], start: int) -> List[Span]:
 
 
 class Writer:
-    """The lines of a script and what each answers."""
+    """The lines of a script and the answer to each."""
 
     def __init__(self, image: Tuple[int, int]) -> None:
         self.image = image
@@ -239,14 +239,14 @@ class Writer:
         self.answers: List[str] = []
 
     def put(self, line: str, answer: str = "done") -> None:
-        """Appends a line and its answer; the line `sections` has none."""
+        """Appends a line and its answer. The line `sections` has no answer."""
         self.lines.append(line)
         if line != "sections":
             self.answers.append(f"{len(self.lines)}: {answer}")
 
     def reserve(self, start: int, end: int, freed: bool = False) -> None:
-        """Appends lines that claim a range, and free it again if `freed`. The first MiB and the
-        image are bootmem's own claims."""
+        """Appends lines that claim a range, and free it again if `freed`. They leave out the first MiB
+        and the image, which bootmem claims by itself."""
         for first, stop in cut([(max(start, MIB), end)], [self.image]) if end > MIB else []:
             self.number += 1
             self.put(f"reserve {self.number} {first:#x} {stop - first:#x}")
@@ -254,8 +254,8 @@ class Writer:
                 self.put(f"free {self.number}")
 
     def claim(self, claim: claims.Claim, spans: Sequence[Span]) -> None:
-        """Appends the lines for a claim of the log. An allocation is searched anew, unless it
-        was made over a border of nodes, before nodes were set."""
+        """Appends the lines for a claim of the log. The program searches the place of an allocation
+        again, unless the place spans several nodes: then it was found before nodes were set."""
         request, place = claim.request, claim.place
         if place is None:
             if request is not None:
@@ -273,7 +273,7 @@ class Writer:
 
 
 class Spare(NamedTuple):
-    """The program's own memory above the kernel's: room in each node, and single frames above."""
+    """The program's own memory above the kernel's: room in each node, and single frames above that."""
 
     room: List[Span]
     frames: List[int]
@@ -285,9 +285,9 @@ class Spare(NamedTuple):
 
 
 def spare_memory(kernel: lists.Kernel, log: claims.Log, surplus: Sequence[int]) -> Spare:
-    """The memory that the program gets above the kernel's. Each range of it takes a record of the
-    program's reserved table once it is claimed. There are as many as make that table as long as
-    the kernel's where the kernel's grew, which `surplus` says.
+    """The memory that the program gets above the kernel's. Once claimed, each range of it has a record
+    in the program's reserved table. There are enough ranges to make that table as long as the
+    kernel's each time that the kernel's grew, by `surplus`.
 
     # Errors
     Trouble: the kernel's table grew without a surplus, and no record of it ends where the room
@@ -307,12 +307,12 @@ def spare_memory(kernel: lists.Kernel, log: claims.Log, surplus: Sequence[int]) 
 def make_machine(
     kernel: lists.Kernel, lines: Sequence[str], image: Optional[Tuple[int, int]], program: str
 ) -> Machine:
-    """The inputs with which bootmem makes the claims of this log on a machine of this kernel's
-    memory. `image` is the first and the last byte of the kernel's image, or None if the log tells
-    them.
+    """The inputs with which bootmem makes the claims of this log on a machine with this kernel's
+    memory. `image` is the first and the last byte of the kernel's image, or None to take them from
+    the log.
 
     # Errors
-    Trouble: the log doesn't tell, or no such machine can be made."""
+    Trouble: the log doesn't have the image, or no such machine can be made."""
     log = claims.read_log(list(lines))
     image = image or claims.image_of(log)
     if image is None:
@@ -327,7 +327,7 @@ def make_machine(
     ]
     writer = Writer((image[0], image[1] + 1))
     writer.put("sections")
-    # a claim over the program's own memory table would be refused
+    # the program would refuse a claim that overlaps its own memory table
     table = memory_table(program, files, words + ["zp.bin"])
     early = [(first, last + 1) for first, last in log.reserved]
     for start, end in cut(spare.ranges(), [table]) + early:
@@ -448,7 +448,7 @@ def boot(qemu: Sequence[str], vmlinux: str, timeout: float) -> Tuple[Dict[str, A
 
 
 def end_of(emulator: "subprocess.Popen[bytes]", said: str) -> str:
-    """What to add to a trouble if QEMU has ended by itself: its status and first line."""
+    """What to add to an error if QEMU has ended by itself: its status and first line."""
     if emulator.poll() is None:
         return ""
     first = tool.read_text(said).strip().splitlines()[:1]
@@ -459,7 +459,7 @@ def await_stub(emulator: "subprocess.Popen[bytes]", stub: str) -> None:
     """Waits until QEMU has made its stub.
 
     # Errors
-    Trouble: it ends before."""
+    Trouble: QEMU ends before that, or makes none in a minute."""
     for _ in range(600):
         if os.path.exists(stub):
             return
@@ -543,7 +543,7 @@ def compare_folders(given: argparse.Namespace) -> int:
 
 
 def read_words(words: List[str], qemu: Optional[List[str]]) -> argparse.Namespace:
-    """The tool's words; `qemu` has those behind `--`."""
+    """The tool's words; `qemu` has those after `--`."""
     parser: argparse.ArgumentParser = tool.new_parser(NAME, USAGE, ABOUT, EPILOG)
     parser.add_argument(
         "folders", metavar="FOLDER", nargs="*", help="with --compare: folders that the tool wrote"

@@ -1,9 +1,9 @@
-"""The part of free-lists that runs inside gdb: stops a kernel at handover and reads memblock's
+"""The part of free-lists that runs inside gdb. It stops a kernel at handover, and reads memblock's
 tables and the free lists from its memory.
 
 The environment names the gdb stub (FREE_LISTS_STUB, as `target remote` takes it) and the file
 to write (FREE_LISTS_OUTPUT, JSON). Symbols and structures come from the kernel's debug
-information. The kernel runs with nokaslr, so that its symbols lie where they were linked."""
+information. The kernel runs with nokaslr, so that its symbols have the addresses of the link."""
 
 import json
 import os
@@ -19,7 +19,7 @@ Block = Tuple[int, str, int, str, int]  # node, zone, order, migrate type, first
 
 
 def value_of(expression: str) -> int:
-    """The number that an expression in C has by the debug information."""
+    """The value of an expression in C that is a number, by the debug information."""
     return int(gdb.parse_and_eval(expression))
 
 
@@ -54,7 +54,7 @@ def read_text(address: int, size: int) -> str:
 
 
 def run_to(address: int) -> None:
-    """Lets the kernel run until it comes to this address."""
+    """Lets the kernel run until it reaches this address."""
     stop = gdb.Breakpoint(f"*{address:#x}", type=gdb.BP_HARDWARE_BREAKPOINT, internal=True)
     gdb.execute("continue", to_string=True)
     place = value_of("(unsigned long)$rip")
@@ -64,8 +64,7 @@ def run_to(address: int) -> None:
 
 
 def read_table(name: str) -> Dict[str, Any]:
-    """One of memblock's tables: where it is, its room, and each record's base, size, flags and
-    node."""
+    """One of memblock's tables: its place, its room, and each record's base, size, flags and node."""
     at = address_of("memblock")
     count, room, regions = (
         read_long(at + offset_of("memblock", f"{name}.{field}"))
@@ -87,7 +86,7 @@ def node_count() -> int:
 
 
 class Layout:
-    """Where the fields of nodes, zones, lists and page structures are, by the debug
+    """The offsets of the fields of nodes, zones, lists and page structures, from the debug
     information."""
 
     def __init__(self) -> None:
@@ -105,8 +104,8 @@ class Layout:
         ]
         self.count = offset_of("free_area", "nr_free")
         self.links, self.order = offset_of("page", "lru"), offset_of("page", "private")
-        # a page's flags begin with its node, then its zone (page-flags-layout.h): as many bits as
-        # the greatest number needs
+        # the top bits of a page's flags are its node, and below that its zone (page-flags-layout.h);
+        # each has the number of bits that its greatest value needs
         self.node_bits = (node_count() - 1).bit_length()
         self.zone_bits = (self.zones - 1).bit_length()
         self.map = read_long(address_of("vmemmap_base"))
@@ -122,11 +121,11 @@ class Layout:
 def read_list(
     layout: Layout, head: int, order: int, node: int, zone: int, faults: List[str]
 ) -> List[int]:
-    """The numbers of the first frames of the blocks of one list, from its head; what is odd
-    about a page goes into `faults`."""
+    """The numbers of the first frames of the blocks of one list, from its head. A page that doesn't
+    match the list is described in `faults`."""
     found: List[int] = []
     before, at = head, read_long(head)
-    while at not in (head, 0):  # 0: the lists of a zone without frames were never made
+    while at not in (head, 0):  # 0: the kernel doesn't initialize the lists of a zone without frames
         page = at - layout.links
         raw = read(page, layout.page)
         after, back = struct.unpack_from("<QQ", raw, layout.links)
@@ -193,8 +192,8 @@ def read_lists(faults: List[str]) -> Tuple[List[Zone], Dict[int, int], List[Bloc
 
 
 def main() -> None:
-    """Writes what the kernel has at the entry of memblock_free_all, at its return, and when
-    deferred pages have been set up."""
+    """Writes the kernel's state at the entry of memblock_free_all, at its return, and after deferred
+    pages have been set up."""
     for setting in (
         "pagination off",
         "confirm off",
@@ -222,8 +221,8 @@ def main() -> None:
         for zone in told["zones"]
         if sums.get(zone[:2], 0) != zone[5]
     ]
-    # page_alloc_init_late calls it after the last deferred page; the console has the whole log by
-    # then
+    # page_alloc_init_late calls buffer_init after the last deferred page; the console has the whole
+    # log by then
     run_to(value_of("(unsigned long)buffer_init"))
     told["late"] = read_lists(faults)[2] if told["deferred"] else []
     told["faults"] = faults

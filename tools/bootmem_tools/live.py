@@ -1,4 +1,4 @@
-"""bootmem-live: does bootmem's account of memory hold on the kernel that runs here?"""
+"""bootmem-live: compares what bootmem says about memory with what the kernel that runs here shows."""
 
 from __future__ import annotations
 
@@ -77,7 +77,7 @@ class Finding(NamedTuple):
 
 
 COMPARED = ["map", "zones", "nodes", "crash"]
-DOMAINS = 1024  # MAX_NUMNODES: a domain number of this or more has the kernel drop the SRAT
+DOMAINS = 1024  # MAX_NUMNODES: with a domain number of this or more, the kernel drops the SRAT
 BOOT_DATA, RUNTIME = 4, 1 << 63  # EFI_BOOT_SERVICES_DATA, EFI_MEMORY_RUNTIME
 
 # Zones by node and name.
@@ -86,7 +86,7 @@ Texts = reports.Texts
 
 
 def row(*functions: str) -> str:
-    """Returns a row of the table in KERNEL.md, by the functions that it begins with."""
+    """Returns the name of the row of KERNEL.md's table that begins with these functions."""
     return "docs/KERNEL.md, row " + ", ".join(functions)
 
 
@@ -109,8 +109,8 @@ def read_words(words: list[str]) -> argparse.Namespace:
 
 
 def collect(given: argparse.Namespace, folder: str) -> None:
-    """Gathers the machine's inputs into the folder, by the script beside this tool, else by the
-    one on the PATH."""
+    """Collects the machine's inputs in the folder, with the script next to this tool, or else with
+    the one on the PATH."""
     folders = [os.path.dirname(os.path.realpath(sys.argv[0])), os.path.dirname(os.path.dirname(os.path.realpath(__file__)))]
     scripts = [os.path.join(beside, name) for beside in folders for name in ("collect.sh", "bootmem-collect")]
     script = next((path for path in scripts if os.path.isfile(path)), None) or shutil.which("bootmem-collect")
@@ -126,8 +126,8 @@ def collect(given: argparse.Namespace, folder: str) -> None:
 
 
 def read_zoneinfo(text: str) -> Zones:
-    """Returns the zones of /proc/zoneinfo that have frames, by node and name; a start that isn't
-    shown is None."""
+    """Returns the zones of /proc/zoneinfo that have frames, by node and name. The start is None if it
+    isn't shown."""
     found = {}
     for part in re.split(r"^(?=Node \d+, zone)", text, flags=re.MULTILINE):
         head = re.match(r"Node (\d+), zone +(\S+)", part)
@@ -146,18 +146,18 @@ def number_in(name: str, part: str) -> int | None:
 
 
 class Shown(NamedTuple):
-    """What explains a difference of RAM: the kernel's image, and the boot services' data of EFI that
-    the kernel keeps."""
+    """Ranges that explain a difference in RAM: the kernel's image, and the data of EFI's boot services
+    that the kernel keeps."""
 
     image: ranges.Range | None
     kept: list[ranges.Range]
 
 
 def kept_data(folder: str, reserved: Sequence[ranges.Range] = ()) -> list[ranges.Range]:
-    """Returns boot services' data with the attribute of runtime services, by the folder's EFI
-    memory map: what the kernel keeps of it has this attribute (efi_arch_mem_reserve). A map that
-    the kernel listed before (efi=debug) lacks the attribute. There it is what became `reserved`,
-    by a log or by /proc/iomem, inside one descriptor of such data."""
+    """Returns the data of boot services that the kernel keeps, from the folder's EFI memory map. It
+    has the attribute of runtime services there (efi_arch_mem_reserve). A map that the kernel listed
+    before that (efi=debug) lacks the attribute. Then it is what became `reserved`, by a log or by
+    /proc/iomem, inside one descriptor of such data."""
     path = os.path.join(folder, "efi.bin")
     if not os.path.isfile(path):
         return []
@@ -170,8 +170,8 @@ def kept_data(folder: str, reserved: Sequence[ranges.Range] = ()) -> list[ranges
 
 
 def ram_finding(first: int, last: int, here: bool, shown: Shown) -> Finding:
-    """Returns the finding for a range that is RAM on one side alone; `here` says that the kernel
-    has it as System RAM."""
+    """Returns the finding for a range that is RAM on only one side. If `here`, it is System RAM of
+    the kernel."""
     where = f"iomem {ranges.range_text(first, last)} ({ranges.size_text(last + 1 - first)}): "
     if not here and not ranges_outside(first, last, shown.kept):
         return Finding("known", f"{where}usable by bootmem, no System RAM here: boot services' data that the kernel keeps: "
@@ -189,7 +189,7 @@ def ram_finding(first: int, last: int, here: bool, shown: Shown) -> Finding:
 
 
 def ranges_outside(first: int, last: int, others: Iterable[ranges.Range]) -> list[ranges.Range]:
-    """Returns what of a range lies in none of the others."""
+    """Returns the parts of a range that lie in none of the others."""
     rest = [(first, last)]
     for one in others:
         rest = ranges.without(rest, *one)
@@ -197,7 +197,7 @@ def ranges_outside(first: int, last: int, others: Iterable[ranges.Range]) -> lis
 
 
 def image_of(resources: Iterable[machine.Resource]) -> ranges.Range | None:
-    """Returns the first and the last byte of the kernel's image by /proc/iomem, or None."""
+    """Returns the first and the last byte of the kernel's image from /proc/iomem, or None."""
     code = [one for one in resources if one.name.startswith("Kernel ")]
     return (min(one.first for one in code), max(one.last for one in code)) if code else None
 
@@ -252,8 +252,8 @@ def compare_crash(resources: Iterable[machine.Resource], lines: Sequence[str], u
 
 
 def told_zones(spans: Iterable[reports.Span]) -> Zones:
-    """Returns the zones of the report, by node and name, by the kernel's rule: the node's hull
-    cut by the zone's borders, with the same present frames (zone_spanned_pages_in_node)."""
+    """Returns the report's zones by node and name, with the span of the kernel's rule: the node's
+    hull, cut at the zone's borders (zone_spanned_pages_in_node). Present frames don't change."""
     own = {(int(one.fields["node"]), one.fields["zone"]): {key: int(one.fields[key]) for key in ("start_frame", "end_frame", "present")}
            for one in spans}
     found = {}
@@ -277,7 +277,7 @@ def why_untold(name: str) -> str:
 
 
 def why_other(node: int, name: str, here: Zone, told: Zones) -> str:
-    """Returns what may explain a zone of the kernel that is another than bootmem's."""
+    """Returns what may explain a zone of the kernel that differs from bootmem's."""
     zone, below = told[node, name], told.get((node, "DMA"))
     if name == "DMA32" and below and here.present == zone.present + below.present:
         return "a kernel without the zone DMA (CONFIG_ZONE_DMA)"
@@ -289,7 +289,7 @@ def why_other(node: int, name: str, here: Zone, told: Zones) -> str:
 
 
 def with_image(name: str, zone: Zone, made: Iterable[ranges.Range]) -> Zone | None:
-    """Returns a zone with the frames of the image that the kernel makes usable, `made`, or None if it has none of them."""
+    """Returns a zone with the frames `made` of the image, which the kernel makes usable, or None if none of them is in the zone."""
     low, high = BORDERS[name]
     parts = [(max(low, first // ranges.FRAME), min(high, (last + 1) // ranges.FRAME)) for first, last in made]
     parts = [(first, end) for first, end in parts if first < end]
@@ -301,7 +301,8 @@ def with_image(name: str, zone: Zone, made: Iterable[ranges.Range]) -> Zone | No
 
 
 def zone_finding(node: int, name: str, here: Zone, told: Zones, made: Sequence[ranges.Range] = ()) -> Finding:
-    """Returns the finding for a zone that the kernel shows, by the zones of bootmem; `made` is what the kernel's image has beside the map."""
+    """Returns the finding for a zone that the kernel shows, by the zones of bootmem. `made` are the parts of the kernel's image that
+    aren't RAM in the map."""
     where = f"zoneinfo node {node} {name}: {zone_text(here)}"
     zone = told.get((node, name))
     if zone is None:
@@ -319,8 +320,7 @@ def zone_finding(node: int, name: str, here: Zone, told: Zones, made: Sequence[r
 
 
 def compare_zones(shown: Zones, told: Zones, made: Sequence[ranges.Range] = ()) -> Iterator[Finding]:
-    """Yields the findings for the zones that the kernel shows and for those that bootmem alone
-    has."""
+    """Yields the findings for the zones that the kernel shows, and for those that only bootmem has."""
     for node, name in sorted(shown):
         yield zone_finding(node, name, shown[node, name], told, made)
     for node, name in sorted(set(told) - set(shown)):
@@ -331,8 +331,8 @@ def compare_zones(shown: Zones, told: Zones, made: Sequence[ranges.Range] = ()) 
 
 
 class Told(NamedTuple):
-    """What the tools say of a machine: the command that says it, its words by their names in the folder, the reports, and what is
-    noted."""
+    """What bootmem says about a machine: the command that was run, its words with the names in the folder, the reports, and the
+    notes."""
 
     command: str
     words: list[str]
@@ -348,7 +348,8 @@ def folder_words(given: argparse.Namespace, folder: str) -> list[str]:
 
 
 def settings_for(given: argparse.Namespace, folder: str) -> tuple[as_linux.Settings, list[str]]:
-    """Returns what the words and the folder tell that no input does, and the words for it."""
+    """Returns the settings that the words and the folder give and no input has, and the words for
+    them."""
     settings: as_linux.Settings = given.settings
     pages = (machine.text_in(folder, "pages") or "").strip()
     if settings.pages is None and pages in as_linux.PAGES:
@@ -357,7 +358,7 @@ def settings_for(given: argparse.Namespace, folder: str) -> tuple[as_linux.Setti
 
 
 def told_by_linux(given: argparse.Namespace, folder: str) -> Told:
-    """Returns what is said of the machine in the folder for a boot as Linux 6.1 makes it."""
+    """Returns what bootmem61 says about the machine in the folder for a boot as Linux 6.1 makes it."""
     words = folder_words(given, folder)
     settings, more = settings_for(given, folder)
     slit = ["--slit", "slit.bin"] if os.path.exists(os.path.join(folder, "slit.bin")) else []
@@ -368,7 +369,7 @@ def told_by_linux(given: argparse.Namespace, folder: str) -> Told:
 
 
 def told_by_program(given: argparse.Namespace, folder: str, with_srat: bool = True) -> Told:
-    """Returns what the program says of the inputs in the folder by its own reading."""
+    """Returns what the program says about the inputs in the folder by its own reading."""
     words = folder_words(given, folder)
     if not with_srat:
         del words[words.index("--srat"):words.index("--srat") + 2]
@@ -383,7 +384,7 @@ def srat_note_in(folder: str, words: Sequence[str], texts: Texts) -> str | None:
 
 
 def compare(given: argparse.Namespace, folder: str, words: Sequence[str], texts: Texts) -> Iterator[Finding]:
-    """Yields all findings, by what the kernel shows."""
+    """Yields all findings on the folder's machine."""
     for why in machine.panics(texts):
         yield Finding("panics", why)
     if "--kernel" not in words:
@@ -416,14 +417,14 @@ def compare(given: argparse.Namespace, folder: str, words: Sequence[str], texts:
 
 
 def drops_srat(texts: Texts) -> bool:
-    """Returns whether the SRAT is used, and has a domain for which the kernel drops it whole (acpi_numa_memory_affinity_init)."""
+    """Returns whether the program uses an SRAT that the kernel drops because of a domain's number (acpi_numa_memory_affinity_init)."""
     lines = list(read_lines("nodes", texts["nodes"]))
     used = any(line.kind == "numa" and line.fields["name"] == "used" for line in lines)
     return used and any(line.kind == "domain" and int(line.fields["domain"]) >= DOMAINS for line in lines)
 
 
 def print_findings(given: argparse.Namespace, folder: str) -> collections.Counter[str]:
-    """Prints the command and the findings for a folder; how many there are of each kind."""
+    """Prints the command and the findings for a folder. Returns how many findings of each kind there are."""
     next_step.refuse_pageless(NAME, folder)
     told = told_by_program(given, folder) if given.raw else told_by_linux(given, folder)
     findings = [Finding("noted", said) for said in told.notes]
@@ -444,8 +445,8 @@ def print_findings(given: argparse.Namespace, folder: str) -> collections.Counte
 
 
 def main(words: list[str]) -> int:
-    """Prints the findings and their numbers; the status says whether the kernel differs in a way
-    that isn't known."""
+    """Prints the findings and their numbers. Returns 1 if the kernel differs in a way that isn't
+    known, else 0."""
     given = read_words(words)
     name = runner.OWN if given.raw else runner.LINUX
     given.program = os.path.abspath(runner.find_program(given.program, name))
