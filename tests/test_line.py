@@ -60,7 +60,7 @@ add_efi_memmap=0 "add_efi_memmap" | = | word 1: add_efi_memmap=0: EFI's descript
 add-efi-memmap=1 add_efi-memmap | add_efi_memmap add_efi_memmap | word 1: add-efi-memmap=1: read as add_efi_memmap
 crashkernal=64M crash_kernel=1 MEM=1G mem_map=1 numma=off | = | word 1: crashkernal=64M: passed over, by the kernel too: is crash
 """) + [
-    ("x" * 2040 + " mem=64M", "x" * 2040 + " mem=64", "byte 2048 and all behind it: cut off"),
+    ("x" * 2040 + " mem=64M", "x" * 2040 + " mem=64", "byte 2048 and all after it: cut off"),
 ]
 
 

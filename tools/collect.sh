@@ -17,24 +17,24 @@ that bootmem reads:
 
   zp.bin       the zero page, /sys/kernel/boot_params/data
   e820ext.bin  the E820 extension, made from /sys/kernel/boot_params/setup_data
-               where one is there
+               if there is one
   cmdline      the command line, /proc/cmdline
   srat.bin     the ACPI table SRAT, /sys/firmware/acpi/tables/SRAT (root alone)
-  efi.bin      EFI's memory map, made from /sys/firmware/efi/runtime-map where
-               one is there (root alone): its descriptors of runtime services,
+  efi.bin      EFI's memory map, made from /sys/firmware/efi/runtime-map if
+               there is one (root alone): its descriptors of runtime services,
                and those of boot services if the kernel was booted with
                efi=debug, since it shows no others
   kernel       the place of the kernel's image as --kernel takes it: Kernel code
                to Kernel bss of /proc/iomem, in whole frames (root alone)
 
-and beside them, for bootmem-live and for those who read them later,
+and also, for bootmem-live and for those who read them later,
 
   slit.bin     the ACPI table SLIT, /sys/firmware/acpi/tables/SLIT (root alone)
   pages        the largest page of the kernel's direct map, 1G or 2M, by the
                flags in /proc/cpuinfo
   iomem, zoneinfo, buddyinfo
-               what the kernel shows under these names in /proc; iomem where it
-               shows its addresses (root alone)
+               what the kernel shows under these names in /proc; iomem only if
+               it shows its addresses (root alone)
   release      the kernel's release, of uname -r
 
 Files of these names that FOLDER has already are removed first. It reads and
@@ -43,16 +43,16 @@ gathered, and the command to run next, go to standard output; what it couldn't
 read to standard error. A command line may hold secrets: look at it before you
 hand the folder on.
 
-  --sys DIR       what stands for /sys
-  --proc DIR      what stands for /proc
-  --cmdline FILE  what stands for /proc/cmdline
+  --sys DIR       a folder in place of /sys
+  --proc DIR      a folder in place of /proc
+  --cmdline FILE  a file in place of /proc/cmdline
   --version       print the version and exit
 
 example:
   $me here && bootmem-live here
 
-exit status: 0; 1 where zero page, extension or command line couldn't be read,
-or FOLDER not be written; 2 for words that aren't those above.
+exit status: 0; 1 if zero page, extension or command line couldn't be read, or
+FOLDER couldn't be written; 2 for words that aren't those above.
 
 This tool isn't proved: it only copies what the proved program reads.
 END

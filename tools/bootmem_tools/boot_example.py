@@ -32,16 +32,16 @@ monitor, and words for a machine without display or network. The kernel's line i
 
     {FIXED_LINE}
 
-and WORDS of --line behind it. Without --initrd the initrd is 1 MiB that no kernel unpacks: the
+and then WORDS of --line. Without --initrd the initrd is 1 MiB that no kernel unpacks: the
 boot ends as soon as the log has the line that counts memory. The zero page, nodes of setup_data
 and ACPI's tables are then read from the machine's memory.
 
 VMLINUZ is a bzImage, or the ELF image that is packed in it: QEMU enters that by PVH, which saves an
 emulator most of the time, and which KASLR and UEFI firmware don't have.
 
-Nothing of the program is asked: each text comes from the kernel's log. zones.txt isn't made, since
-its free frames are a rule of this project, and nodes.txt only where the log has no SRAT or takes
-it. The log must begin with the line `Linux version`; a kernel whose early log is longer than its
+The program isn't run: each text comes from the kernel's log. zones.txt isn't made, since its free
+frames are a rule of this project. nodes.txt is only made if the log has no SRAT, or if the kernel
+used it. The log must begin with the line `Linux version`; a kernel whose early log is longer than its
 buffer needs log_buf_len= in WORDS.
 
 FOLDER may exist; files of these names in it are replaced. What was written goes to standard output.

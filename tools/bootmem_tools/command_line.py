@@ -628,7 +628,7 @@ def read_line(data: bytes, total: Callable[[str], Total] | None = None,
     changes: list[str] = []
     raw = raw_line(data)
     if len(raw) > LONGEST:
-        changes.append(f"byte {LONGEST + 1} and all behind it: cut off, as the kernel does")
+        changes.append(f"byte {LONGEST + 1} and all after it: cut off, as the kernel does")
         raw = raw[:LONGEST]
     line = settled_line(raw, changes)
     words, end = words_of(line)

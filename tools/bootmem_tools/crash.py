@@ -35,7 +35,7 @@ more is claimed than bootmem claims.
 
 {runner.FINDING_RAW}
 
-Of several machines each has a line == with its name; --json prints an object for each instead (FORMATS.md of the documents: "Crash areas as
+With several machines, each begins with a line == and its name; --json prints an object for each instead (FORMATS.md of the documents: "Crash areas as
 JSON").
 
 exit status: 0 if each SIZE fits (without one: what the line asks for, or anything if it asks for nothing), 1
@@ -311,7 +311,7 @@ def taken_text(own: Machine, texts: reports.Texts, asked: str) -> str:
 def reasons(own: Machine, asked: str, tried: Tried) -> Iterator[str]:
     """Yields the reasons why an area doesn't fit, one line each."""
     if tried.why not in ("no area", "low failed", "in use"):
-        yield f"the boot stops behind it: {without_stop(tried.why)}"
+        yield f"the boot stops after it: {without_stop(tried.why)}"
         return
     texts, stop = own.run("", ["memory", "journal"])
     if stop:

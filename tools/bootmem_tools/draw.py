@@ -37,10 +37,10 @@ Otherwise the tool reads the text of reports from FILE, or from standard input i
 
 --html writes a page of the same columns, which needs no network: it zooms into a range, shows the exact range and owner
 of the address under the pointer, and finds an address. Of two texts A and B, or of A and a run for WORDS, it shows both
-boots beside one another; what is the same in both is pale, and a list has what changed.
+boots side by side; what is the same in both is pale, and a list has the changes.
 
-A table keeps within $COLUMNS, or else the terminal's width, or else {tool.WIDTH}: columns without room there come in a table of
-their own below.
+A table keeps within $COLUMNS, or else the terminal's width, or else {tool.WIDTH}: columns without room there are in another
+table below.
 
 {runner.FINDING_AS_LINUX}
 

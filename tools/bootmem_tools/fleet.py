@@ -23,8 +23,8 @@ USAGE = """bootmem-fleet [--json | --columns] [--cmdline-add WORDS]
                      [--kernel BASE,SIZE] [--jobs N]
                      [--verbose] [--raw] [--pages 4K|2M|1G]
                      [--brk BYTES] [--x2apic] [--cma] [--program P] FOLDER.."""
-ABOUT = """Boots the machines of folders that bootmem-collect (collect.sh) gathered, as many at once as there are processors, as
-Linux 6.1 does, and prints a line for each, in the order of the words, with a tab between each two columns:
+ABOUT = """Boots the machines of folders that bootmem-collect (collect.sh) gathered, as Linux 6.1 does, one per processor at a time, and
+prints a line for each, in the order of the words, with a tab between each two columns:
 
   folder   as it was given
   status   that of bootmem; 0 if it printed its reports
@@ -50,8 +50,8 @@ The inputs are read as that kernel reads them, and what it claims before the cra
 bootmem-linux does; --verbose prints what was changed or assumed, or can't be known, of each machine. With --raw the
 program reads the inputs itself, and nothing more is claimed than bootmem claims.
 
---cmdline-drop takes the words NAME and NAME=.. out of each line, --cmdline-add appends WORDS. What is wrong with WORDS
-is told once on standard error.
+--cmdline-drop takes the words NAME and NAME=.. out of each line, --cmdline-add appends WORDS. What is wrong with WORDS is
+printed once on standard error.
 
 --json prints one JSON object a line instead (FORMATS.md of the documents: "A fleet as JSON").
 
@@ -113,8 +113,8 @@ def read_words(words: list[str]) -> argparse.Namespace:
     parser.add_argument("--cmdline-drop", metavar="NAME", action="append", default=[], help="first take this option out of it")
     parser.add_argument("--greatest", action="store_true", help="also find the greatest areas that fit, by some ten boots each")
     parser.add_argument("--kernel", metavar="BASE,SIZE", help="where every kernel's image lies")
-    parser.add_argument("--jobs", metavar="N", type=int, help="so many runs at once")
-    parser.add_argument("--verbose", action="store_true", help="tell what was changed or assumed, or can't be known")
+    parser.add_argument("--jobs", metavar="N", type=int, help="the number of runs at once")
+    parser.add_argument("--verbose", action="store_true", help="print what was changed or assumed, or can't be known")
     as_linux.add_raw(parser)
     runner.add_program(parser)
     given = parser.parse_args(words)

@@ -34,12 +34,12 @@ linux-image-..-dbg). gdb-add-index makes its reading quick. The tool needs gdb w
 QEMU.
 
 Above the kernel's memory the machine in FOLDER has room of its own in each node, which takes what
-bootmem claims by itself and is claimed whole by the script. The image lies where the log tells, or
-where --kernel does.
+bootmem claims by itself and is claimed whole by the script. The image's place is that of the log, or
+of --kernel.
 
 {runner.FINDING}
 
-exit status: 0; 1 where something differs without a row of KERNEL.md, or the kernel can't be read;
+exit status: 0; 1 if something differs without a row of KERNEL.md, or the kernel can't be read;
 2 for words that aren't those above.
 
 examples:

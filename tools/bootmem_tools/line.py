@@ -11,8 +11,8 @@ from bootmem_tools import command_line, ranges, runner, tool
 NAME = "bootmem-line"
 USAGE = """bootmem-line [--e820ext FILE] [--total SIZE] [--program P]
                     [CMDLINE [ZEROPAGE]]"""
-ABOUT = """Reads a command line as Linux 6.1 reads it and prints one that bootmem reads alike. What it changed goes to standard
-error, a line each. bootmem refuses a malformed option and reads crashkernel= by rules of its own; the kernel warns and
+ABOUT = """Reads a command line as Linux 6.1 reads it and prints one that bootmem reads the same way. It prints each change as a
+line on standard error. bootmem refuses a malformed option and reads crashkernel= by rules of its own; the kernel warns and
 goes on, looks for crashkernel= in the raw line, and rounds total memory up before it picks a range."""
 EPILOG = f"""CMDLINE is a file, or standard input if there is none or it is -. If crashkernel= has ranges, as in
 1G-4G:192M,4G-:256M, the size depends on total memory: that of ZEROPAGE (and --e820ext) under the line's own mem= and

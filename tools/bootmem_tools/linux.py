@@ -19,13 +19,13 @@ inputs are read as that kernel reads them, and what it claims before its crash
 area is claimed, so that the crash area and the data of nodes lie where that
 kernel has them. Each thing that was changed, assumed or can't be known is a
 line on standard error."""
-EPILOG = f"""WORDS are those of bootmem61 but --claims, --report among them. With UEFI firmware give --efi,
-else boot services' memory isn't claimed.
+EPILOG = f"""WORDS are those of bootmem61, including --report but not --claims. With UEFI firmware give --efi;
+otherwise boot services' memory isn't claimed.
 
-What is made, in the kernel's order, as far as the inputs tell: setup_data, EFI's memory
-map, brk, boot services, page tables of the direct map, the log buffer of log_buf_len=, an
+These claims are made, in the kernel's order, as far as the inputs show them: setup_data, EFI's
+memory map, brk, boot services, page tables of the direct map, the log buffer of log_buf_len=, an
 initrd that moves, the distances of a SLIT; with --cma the areas of cma= and hugetlb_cma=.
-A log of this kernel (--log; it needs no option on the line) tells more: all nodes of
+A log of this kernel (--log; it needs no option on the line) shows more: all nodes of
 setup_data, ACPI tables, and EFI's memory attributes and TPM log.
 
 The claims are lines of a file that bootmem61 carries out (--claims), with IDs from

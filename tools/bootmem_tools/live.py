@@ -28,9 +28,9 @@ ABOUT = """Compares what bootmem says of a machine with what its kernel shows: t
 /proc/iomem, the crash area with its Crash kernel, and start, spanned and present frames of each zone with
 /proc/zoneinfo. Each difference is one line, with what may explain it."""
 EPILOG = f"""The machine is the one that this runs on, or that of FOLDER, as bootmem-collect (collect.sh) gathered it. Root sees
-more: the addresses of /proc/iomem are 0 for others, and ACPI's SRAT can't be read by them. Where the kernel's image
-lies is taken from /proc/iomem, or from FOLDER, unless there is --kernel. What is gathered is removed at the end, or
-kept by --keep, with all that it is compared with.
+more: the addresses of /proc/iomem are 0 for others, and they can't read ACPI's SRAT. The place of the kernel's
+image is taken from /proc/iomem, or from FOLDER, unless --kernel gives it. The collected files are removed at the end,
+or kept by --keep, with all that they are compared with.
 
 The inputs are read as Linux 6.1 reads them, and what that kernel claims before its crash area is claimed, as
 bootmem-linux does; pages of the direct map are 1 GiB large if the processor has them. With --raw the program
@@ -96,8 +96,8 @@ def read_words(words: list[str]) -> argparse.Namespace:
     parser.add_argument("folder", metavar="FOLDER", nargs="?", help="what bootmem-collect gathered of a machine")
     parser.add_argument("--kernel", metavar="BASE,SIZE", help="where the kernel's image lies, as bootmem reads it")
     parser.add_argument("--keep", metavar="FOLDER", help="gather into FOLDER and leave it there")
-    parser.add_argument("--sys", metavar="DIR", help="what stands for /sys")
-    parser.add_argument("--proc", metavar="DIR", help="what stands for /proc")
+    parser.add_argument("--sys", metavar="DIR", help="a folder in place of /sys")
+    parser.add_argument("--proc", metavar="DIR", help="a folder in place of /proc")
     as_linux.add_raw(parser)
     as_linux.add_log(parser)
     runner.add_program(parser)
@@ -241,7 +241,7 @@ def compare_crash(resources: Iterable[machine.Resource], lines: Sequence[str], u
     if here == told:
         return Finding("agrees", f"crash area: {area_text(here)}" + ("" if told or "crash none" in lines else f", and {lines[0]}"))
     where = f"crash area: {area_text(here)} here, {area_text(told)} by bootmem: "
-    before = row("efi_init", "efi_reserve_boot_services") if uefi else row("init_mem_mapping", "setup_log_buf") + " and those behind it"
+    before = row("efi_init", "efi_reserve_boot_services") if uefi else row("init_mem_mapping", "setup_log_buf") + " and those after it"
     lower = [own[0] <= other[0] and own[1] - own[0] == other[1] - other[0] for own, other in zip(here, told)]
     if len(here) == len(told) and all(lower):
         return Finding("known", f"{where}the kernel claims more before it: {before}")

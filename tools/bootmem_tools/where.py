@@ -14,7 +14,7 @@ NAME = "bootmem-where"
 WANTED = ["map", "memory", "owners", "journal", "tables", "nodes", "zones", "sections", "blocks"]
 USAGE = """bootmem-where [--frame] ADDRESS [FILE]
        bootmem-where [--frame] [--as-linux] [--program P] ADDRESS -- WORDS"""
-ABOUT = """Prints what becomes of one address: its frame, the entry of the map, whether it is memory, who owns it and the step of the
+ABOUT = """Prints what the reports say about one address: its frame, the entry of the map, whether it is memory, who owns it and the step of the
 journal that claimed it, node, zone, section with the place of its map and of the frame's page structure, and
 free block."""
 EPILOG = f"""ADDRESS is hexadecimal or decimal, with K, M, G or T after it or without. After -- come the words of the
@@ -40,7 +40,7 @@ def read_words(words: list[str]) -> tuple[int, reports.Texts, list[linux_claims.
     boot."""
     own, program_words = tool.split_words(words)
     parser = tool.new_parser(NAME, USAGE, ABOUT, EPILOG)
-    parser.add_argument("address", metavar="ADDRESS", help="what to tell of: 0x100000, 1048576, 1M")
+    parser.add_argument("address", metavar="ADDRESS", help="the address: 0x100000, 1048576, 1M")
     parser.add_argument("file", metavar="FILE", nargs="?", help="a text of reports; - is standard input")
     parser.add_argument("--frame", action="store_true", help="ADDRESS is the number of a frame of 4,096 bytes")
     as_linux.add_flag(parser)

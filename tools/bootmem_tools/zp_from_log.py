@@ -21,7 +21,7 @@ serial console; with time stamps or without):
 
     BIOS-e820: [mem 0x0000000000100000-0x000000007ffdefff] usable
 
-or from another SOURCE, below. With --folder it makes all of a boot's inputs that SOURCE tells, in a folder as
+or from another SOURCE, below. With --folder it makes all of a boot's inputs that SOURCE has, in a folder as
 bootmem-collect makes one."""
 EPILOG = """SOURCE is standard input if there is none or it is -, else a file or a folder:
 
@@ -40,7 +40,7 @@ persistent (type 7), persistent (type 12), soft reserved, type N.
 
 Lines `extended: [mem ..]`, which the kernel prints if the boot loader handed over an extension, have the whole
 map and are taken instead. Of a log with several boots the last is taken. A kernel's log has the map as the kernel
-settled it: how entries of the firmware lay over one another isn't in it, and the map of bootmem is the same.
+settled it. It doesn't show how the firmware's entries overlapped, but bootmem's map is the same.
 
 A zero page has room for 128 entries; the others go to EXT, which is always written if it is named.
 
@@ -58,7 +58,7 @@ If UEFI firmware handed over its own map, a kernel with efi=debug lists its desc
 Of what it lists the first list is taken, from mem00 on; a later one is that of the runtime services' addresses.
 
 FOLDER gets zp.bin, e820ext.bin, cmdline, srat.bin, slit.bin, efi.bin, kernel, iomem, zoneinfo, buddyinfo and release, as
-far as they are told; other files of these names are removed. What is written, and the command to run next, go to
+far as SOURCE has them; other files of these names are removed. What is written, and the command to run next, go to
 standard output. The place of the kernel's image (kernel) is that of --kernel or of iomem, or that of a log with memblock=debug;
 without it 16 MiB to 48 MiB is assumed.
 
